@@ -1,0 +1,1 @@
+// Exact plane geometry over 32-bit coordinates.
