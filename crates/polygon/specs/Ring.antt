@@ -1,0 +1,84 @@
+-- The ring: point numbers by position, the position index that inverts it, and the two ways in which a move changes it.
+use mathlib.Core.Path.{_≡_}
+use mathlib.Core.Bool.{Bool, not, _&&_, cond}
+use mathlib.Core.List.{List, [], _∷_, map}
+use Prim.Native.Nat.{ℕ, zero, suc, _+_, _-_, _<_}
+use lib.Dec.{eqb, leb, ltb}
+use lib.ListN.{length, getD}
+use Rattle.algebra.specs.Ranges.{upFrom, allBelow}
+
+-- ---- positions of a ring of n points
+-- one place on, wrapping
+abbrev pub next : ℕ → ℕ → ℕ
+next n i = cond (eqb (suc i) n) 0 (suc i)
+
+-- one place back, wrapping
+abbrev pub prev : ℕ → ℕ → ℕ
+prev n i = cond (eqb i 0) (n - 1) (i - 1)
+
+-- how many places on from p is i
+abbrev pub dist : ℕ → ℕ → ℕ → ℕ
+dist n p i = cond (leb p i) (i - p) (i + n - p)
+
+-- k places back from q
+abbrev pub back : ℕ → ℕ → ℕ → ℕ
+back n q k = cond (leb k q) (q - k) (q + n - k)
+
+-- k positions from i on
+abbrev pub stretch : ℕ → ℕ → ℕ → List ℕ
+stretch n i zero = []
+stretch n i (suc k) = i ∷ stretch n (next n i) k
+
+-- ---- the ring and its index
+-- the point number at a position
+abbrev pub at : List ℕ → ℕ → ℕ
+at r i = getD r i 0
+
+-- A ring of n points names each of the numbers below n once.
+pub record IsRing (n : ℕ) (r : List ℕ) : Type 0 where
+  pub len : length r ≡ n
+  pub below : (i : ℕ) → i < n → at r i < n
+  pub apart : (i j : ℕ) → i < n → j < n → at r i ≡ at r j → i ≡ j
+
+-- the same, as a test
+abbrev pub eachOnce : ℕ → List ℕ → Bool
+eachOnce n r = eqb (length r) n && allBelow n (λ i. ltb (at r i) n && allBelow i (λ j. not (eqb (at r j) (at r i))))
+
+-- The position index gives each number's place.
+pub record IsIndex (n : ℕ) (r x : List ℕ) : Type 0 where
+  pub size : length x ≡ n
+  pub finds : (i : ℕ) → i < n → at x (at r i) ≡ i
+
+-- the position of a number: i, counted on, where the list's first is at i
+abbrev pub placeOf : ℕ → List ℕ → ℕ → ℕ
+placeOf v [] i = i
+placeOf v (a ∷ l) i = cond (eqb a v) i (placeOf v l (suc i))
+
+-- The index of a ring, by computation.
+abbrev pub indexOf : ℕ → List ℕ → List ℕ
+indexOf n r = map (λ v. placeOf v r 0) (upFrom 0 n)
+
+-- ---- changes, as maps on positions
+-- the ring that has at i what r has at f i
+abbrev pub moved : ℕ → (ℕ → ℕ) → List ℕ → List ℕ
+moved n f r = map (λ i. at r (f i)) (upFrom 0 n)
+
+-- the places from p on to q change ends, wrapping if need be
+abbrev pub flip : ℕ → ℕ → ℕ → ℕ → ℕ
+flip n p q i = cond (leb (dist n p i) (dist n p q)) (back n q (dist n p i)) i
+
+-- A stretch from p on to q reversed.
+abbrev pub reversed : ℕ → List ℕ → ℕ → ℕ → List ℕ
+reversed n r p q = moved n (flip n p q) r
+
+-- the place at k comes right behind e, and those between move on by one
+abbrev pub slide : ℕ → ℕ → ℕ → ℕ → ℕ
+slide n e k i = cond (eqb (dist n e i) 0) i (cond (eqb (dist n e i) 1) k (cond (leb (dist n e i) (dist n e k)) (prev n i) i))
+
+-- A point joined behind a place: the point at k comes to stand right behind e, and those between move on by one.
+abbrev pub joined : ℕ → List ℕ → ℕ → ℕ → List ℕ
+joined n r e k = moved n (slide n e k) r
+
+-- The whole loop reversed: from position 0 to the last.
+abbrev pub turnedRound : ℕ → List ℕ → List ℕ
+turnedRound n r = reversed n r 0 (n - 1)

@@ -1,0 +1,1 @@
+// The ring: positions, reversal, joining and the position index.
