@@ -1,0 +1,5 @@
+pub mod Board
+pub mod Search
+pub mod Machine
+pub mod Answer
+pub mod Demand3
