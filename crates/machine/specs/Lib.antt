@@ -3,3 +3,4 @@ pub mod Search
 pub mod Machine
 pub mod Answer
 pub mod Demand3
+pub mod Boards
