@@ -5,3 +5,6 @@ pub mod Symmetry
 pub mod Crossing
 pub mod Meeting
 pub mod Height
+pub mod Reading
+pub mod Choosing
+pub mod Signs

@@ -28,9 +28,13 @@ abbrev pub admits : End → Point → Point → Bool
 admits exclusive a p = not (eqP p a)
 admits inclusive a p = true
 
+-- from the lesser of a and b to the greater, in point order
+abbrev pub between : Point → Point → Point → Bool
+between a b p = not (ltP p (minP a b)) && not (ltP (maxP a b) p)
+
 -- the test
 abbrev pub contains : Point → End → Point → End → Point → Bool
-contains a ea b eb p = collinear a b p && ((not (ltP p (minP a b)) && not (ltP (maxP a b) p)) && (admits ea a p && admits eb b p))
+contains a ea b eb p = collinear a b p && (between a b p && (admits ea a p && admits eb b p))
 
 -- strictly inside the segment from a to b
 abbrev pub inside : Point → Point → Point → Bool
