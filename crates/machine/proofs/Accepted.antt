@@ -16,10 +16,10 @@ use Rattle.geometry.proofs.Points.{eqP-true, eqP-same}
 use Rattle.machine.specs.Machine.{State, place, after}
 use Rattle.machine.specs.Answer.{answer, call, inRange, noneAlike, refusal}
 use Rattle.polygon.specs.Ring.{at, eachOnce, IsRing}
-use Rattle.machine.specs.Board.{straightLine, Distinct, Board}
+use Rattle.machine.specs.Board.{AllOnLine, straightLine, Distinct, Board}
 use Rattle.machine.specs.Demand3.{Demand3, Picks}
 use Rattle.machine.proofs.Demand3Holds.{demand3}
-use Rattle.machine.proofs.Corners.{straight-line, line-straight}
+use Rattle.machine.proofs.Corners.{straight-line, line-straight, has-corner}
 use Rattle.algebra.specs.Ranges.{allBelow, all-true, true-all, by-order}
 
 pub record Accepted (n : ℕ) (pt : ℕ → Point) (short : Bool) (r : List ℕ) : Type 0 where
@@ -120,3 +120,17 @@ place-picks c s h = mod-lt c h
 -- So for each call that no check refuses.
 pub demand3-call : (n : ℕ) (pt : ℕ → Point) (short : Bool) (r : List ℕ) → refusal n pt short r ≡ 0 → (cs : List ℕ) → (call n pt short r cs ≡ answer n pt r (after n pt place cs r)) × Demand3 n pt place cs r
 demand3-call n pt short r h cs = (rw h, demand3-accepted n pt short r h place place-picks cs)
+
+-- Refusal 7 exactly when all points are collinear, whatever the ring.
+pub refusal-7 : (n : ℕ) (pt : ℕ → Point) → 3 ≤ n → Distinct n pt → (r : List ℕ) → IsRing n r → (allBelow n (straightLine n pt r) ≡ true) ↔ AllOnLine n pt
+refusal-7 n pt three di r ring = (
+  λ t. straight-line n pt three di r ring (all-true n (straightLine n pt r) t),
+  λ al. true-all n _ (λ i l. line-straight n pt three di r ring al i l),
+)
+
+-- A start that is not refused keeps a corner after every move.
+pub corner-after : (n : ℕ) (pt : ℕ → Point) (short : Bool) (r : List ℕ) → refusal n pt short r ≡ 0 → (w : ℕ → State → ℕ) → Picks w → (cs : List ℕ)
+    → (i : ℕ) × (i < n) × (straightLine n pt (after n pt w cs r .now .ring) i ≡ false)
+corner-after n pt short r h w picks cs =
+    let a = accepted n pt short r .0 h in
+    has-corner n pt (a .board .three) (a .board .distinct) _ (demand3-accepted n pt short r h w picks cs .ring) (a .board .not-line)

@@ -15,10 +15,10 @@ use Rattle.geometry.proofs.Places.{meets-by-signs, uncross}
 use Rattle.geometry.specs.Plane.{Point, turn, eqP, collinear}
 use Rattle.geometry.specs.Segment.{sameSide, shared, meets}
 use Rattle.geometry.proofs.Points.{eqP-same, zero-yes, zero-is, turn-round, turn-first, three}
+use Rattle.machine.specs.Search.{flat}
 use Rattle.algebra.specs.Cases.{T-is, and-left, and-right, both, true-or-false, never, or-right, not-true, or-no-left, or-no-right}
 use Rattle.polygon.specs.Ring.{next}
 use Rattle.machine.specs.Board.{ptAt}
-use Rattle.machine.proofs.SearchFits.{flat}
 use Rattle.geometry.proofs.Crossing.{a-b, a-b', a'-b, laid-apart}
 use Rattle.polygon.proofs.Plans.{Crossed}
 

@@ -9,15 +9,15 @@ use Rattle.geometry.specs.Plane.{Point, ltP, minP, maxP, collinear}
 use Rattle.geometry.specs.Segment.{inside, meets}
 use Rattle.algebra.specs.Cases.{and-left, and-right, both, eq-cases, never}
 use Rattle.geometry.proofs.Points.{zero-yes, zero-is, turn-round, turn-first, turn-second, three, inside-if, inside-is, ltP-total, ltP-flip, max-min}
-use Rattle.machine.specs.Search.{Mergable, none, merge, runBack, runOn, searchEdges, kinkAndEdge}
+use Rattle.machine.specs.Search.{flat, kinkIn, Mergable, none, merge, runBack, runOn, searchEdges, kinkAndEdge}
 use Rattle.polygon.specs.Ring.{next, prev, dist, stretch}
 use Rattle.machine.specs.Board.{ptAt, straightLine, kinkAt}
 use Rattle.polygon.proofs.Positions.{next-cases, next-lt, prev-lt, next-prev, prev-next, dist-self, dist-lt, dist-inj, dist-next, dist-suc, dist-pred, next-not}
 use Rattle.geometry.proofs.Height.{Apart, height, height-up, height-down, height-inj, lower-le}
 use Rattle.machine.proofs.Descent.{fore, tail, tail-fore, descend}
 use Rattle.machine.proofs.Runs.{Straight, Corner, OnL, line-on, line-back, straight-if, dist-pos, run-of}
-use Rattle.machine.proofs.SearchNone.{searchEdges-found, In, in-left, in-right, stretch-in, kinkIn, searchEdges-none}
-use Rattle.machine.proofs.SearchFits.{runBack-lt, runOn-lt, flat, kinkAndEdge-fine}
+use Rattle.machine.proofs.SearchNone.{searchEdges-found, In, in-left, in-right, stretch-in, searchEdges-none}
+use Rattle.machine.proofs.SearchFits.{runBack-lt, runOn-lt, kinkAndEdge-fine}
 use Rattle.polygon.proofs.Plans.{Hung}
 
 -- the position of the edge whose front end is p

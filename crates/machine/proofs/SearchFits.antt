@@ -94,7 +94,3 @@ module _ (n : ℕ) (pt : ℕ → Point) where
         (all-append n (stretch n a₀ (suc (dist n a₀ a₁))) (stretch n b₀ (suc (dist n b₀ b₁))) (stretch-lt a₀ (suc (dist n a₀ a₁)) la₀) (stretch-lt b₀ (suc (dist n b₀ b₁)) lb₀))
         (stretch n a₀ (dist n a₀ a₁) ++ stretch n b₀ (dist n b₀ b₁))
         (all-append n (stretch n a₀ (dist n a₀ a₁)) (stretch n b₀ (dist n b₀ b₁)) (stretch-lt a₀ (dist n a₀ a₁) la₀) (stretch-lt b₀ (dist n b₀ b₁) lb₀))
-
-    -- a plan fits; of an uncrossing that is left to the geometry of the two edges
-    abbrev pub flat : ℕ → ℕ → Bool
-    flat a b = parallel (ptAt pt r a) (ptAt pt r (next n a)) (ptAt pt r b) (ptAt pt r (next n b))

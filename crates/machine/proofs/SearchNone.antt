@@ -6,10 +6,8 @@ use mathlib.Core.Logic.{_⊎_, inl, inr}
 use Prim.Native.Nat.{ℕ, zero, suc, _+_, _<_}
 use native.Mathlib.Omega.{arith}
 use Rattle.geometry.specs.Plane.{Point}
-use Rattle.geometry.specs.Segment.{inside}
-use Rattle.machine.specs.Search.{Mergable, none, merge, orElse, firstKink, searchEdges}
+use Rattle.machine.specs.Search.{Mergable, none, merge, orElse, kinkIn, firstKink, searchEdges}
 use Rattle.polygon.specs.Ring.{next, dist, stretch}
-use Rattle.machine.specs.Board.{ptAt, kinkAt}
 use Rattle.algebra.specs.Cases.{both, eq-cases, true-or-false}
 use Rattle.polygon.proofs.Positions.{next-lt}
 use Rattle.machine.proofs.Runs.{dist-from}
@@ -43,28 +41,25 @@ module _ (n : ℕ) (pt : ℕ → Point) where
   stretch-in (suc m) i k li lk h = both (eq-cases i k) (λ e. here (sym (e .0))) (λ e. there (stretch-in m (next n i) k (next-lt n i li) lk (let z = dist-from n i k li lk (e .0) in omega arith)))
 
   module _ (r : List ℕ) where
-    abbrev pub kinkIn : ℕ → ℕ → Bool
-    kinkIn k p = kinkAt n pt r k && inside (ptAt pt r p) (ptAt pt r (next n p)) (ptAt pt r k)
+    firstKink-skip : (p j : ℕ) (ks : List ℕ) → firstKink n pt r p (j ∷ ks) ≡ none → (kinkIn n pt r j p ≡ false) × (firstKink n pt r p ks ≡ none)
+    firstKink-skip p j ks e = both (true-or-false (kinkIn n pt r j p)) (λ t. hoist-none j p (rw t at e)) (λ t. (t, rw t at e))
 
-    firstKink-skip : (p j : ℕ) (ks : List ℕ) → firstKink n pt r p (j ∷ ks) ≡ none → (kinkIn j p ≡ false) × (firstKink n pt r p ks ≡ none)
-    firstKink-skip p j ks e = both (true-or-false (kinkIn j p)) (λ t. hoist-none j p (rw t at e)) (λ t. (t, rw t at e))
-
-    firstKink-none : (p : ℕ) (ks : List ℕ) → firstKink n pt r p ks ≡ none → (k : ℕ) → In k ks → kinkIn k p ≡ false
+    firstKink-none : (p : ℕ) (ks : List ℕ) → firstKink n pt r p ks ≡ none → (k : ℕ) → In k ks → kinkIn n pt r k p ≡ false
     firstKink-none p (j ∷ ks) e k (here q) = rw q (firstKink-skip p j ks e .0)
     firstKink-none p (j ∷ ks) e k (there h) = firstKink-none p ks (firstKink-skip p j ks e .1) k h
 
-    pub searchEdges-none : (ks ps : List ℕ) → searchEdges n pt r ks ps ≡ none → (k p : ℕ) → In k ks → In p ps → kinkIn k p ≡ false
+    pub searchEdges-none : (ks ps : List ℕ) → searchEdges n pt r ks ps ≡ none → (k p : ℕ) → In k ks → In p ps → kinkIn n pt r k p ≡ false
     searchEdges-none ks (q ∷ ps) e k p hk (here f) = rw f (firstKink-none q ks (orElse-none (firstKink n pt r q ks) (searchEdges n pt r ks ps) e .0) k hk)
     searchEdges-none ks (q ∷ ps) e k p hk (there h) = searchEdges-none ks ps (orElse-none (firstKink n pt r q ks) (searchEdges n pt r ks ps) e .1) k p hk h
 
-    firstKink-found : (p : ℕ) (ks : List ℕ) (k q : ℕ) → firstKink n pt r p ks ≡ merge k q → kinkIn k q ≡ true
+    firstKink-found : (p : ℕ) (ks : List ℕ) (k q : ℕ) → firstKink n pt r p ks ≡ merge k q → kinkIn n pt r k q ≡ true
     firstKink-found p [] k q e = hoist-none k q (sym e)
     firstKink-found p (j ∷ ks) k q e =
-        both (true-or-false (kinkIn j p))
+        both (true-or-false (kinkIn n pt r j p))
         (λ t. (let z : merge j p ≡ merge k q = rw t at e in let x : k ≡ j = cc in let y : q ≡ p = cc in rw (x, y) t))
         (λ t. firstKink-found p ks k q (rw t at e))
 
-    pub searchEdges-found : (ks ps : List ℕ) (k p : ℕ) → searchEdges n pt r ks ps ≡ merge k p → kinkIn k p ≡ true
+    pub searchEdges-found : (ks ps : List ℕ) (k p : ℕ) → searchEdges n pt r ks ps ≡ merge k p → kinkIn n pt r k p ≡ true
     searchEdges-found ks [] k p e = hoist-none k p (sym e)
     searchEdges-found ks (q ∷ ps) k p e =
         both (orElse-cases (firstKink n pt r q ks) (searchEdges n pt r ks ps) k p e) (λ f. firstKink-found q ks k p f) (λ f. searchEdges-found ks ps k p f)
