@@ -9,15 +9,12 @@ use lib.Dec.{eqb}
 use lib.ListN.{length, set, length-set}
 use lib.Seq.{getD-set-same, getD-set-other, ext-getD}
 use borrow.Author.Tests.{eq-eqb, ne-eqb}
-use Rattle.polygon.specs.Ring.{next, prev, dist, at, moved, flip, reversed, slide, joined}
+use Rattle.polygon.specs.Ring.{next, prev, dist, at, swap, moved, flip, reversed, slide, joined}
 use Rattle.algebra.specs.Cases.{both, le-cases, eq-cases}
 use Rattle.polygon.proofs.Positions.{next-cases, dist-cases, next-lt, prev-lt, next-prev, prev-next, dist-self, dist-lt, dist-inj, dist-suc, dist-zero, dist-pred, flip-lt, flip-in, flip-out, slide-zero, slide-one, slide-in, slide-out}
 use Rattle.polygon.proofs.RingEdges.{moved-at, moved-length}
 
--- the points at p and q change places
-abbrev pub swap : List ℕ → ℕ → ℕ → List ℕ
-swap r p q = set (set r p (at r q)) q (at r p)
-
+-- the same, on positions
 abbrev pub trade : ℕ → ℕ → ℕ → ℕ
 trade p q i = cond (eqb i p) q (cond (eqb i q) p i)
 

@@ -1,8 +1,12 @@
 pub mod Positions
 pub mod RingEdges
+pub mod EachOnce
 pub mod InPlace
+pub mod Reverser
 pub mod Index
+pub mod PositionLoops
 pub mod Uncrossing
 pub mod Hoisting
 pub mod LaidEdges
 pub mod Plans
+pub mod WholeReversal

@@ -1,3 +1,4 @@
 pub mod Ring
 pub mod Edges
 pub mod Change
+pub mod Place

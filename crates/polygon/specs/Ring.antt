@@ -2,9 +2,10 @@
 use mathlib.Core.Path.{_≡_}
 use mathlib.Core.Bool.{Bool, not, _&&_, cond}
 use mathlib.Core.List.{List, [], _∷_, map}
-use Prim.Native.Nat.{ℕ, zero, suc, _+_, _-_, _<_}
+use mathlib.Core.Logic.{_⊎_}
+use Prim.Native.Nat.{ℕ, zero, suc, _+_, _-_, _≤_, _<_}
 use lib.Dec.{eqb, leb, ltb}
-use lib.ListN.{length, getD}
+use lib.ListN.{length, getD, set}
 use Rattle.algebra.specs.Ranges.{upFrom, allBelow}
 
 -- ---- positions of a ring of n points
@@ -40,14 +41,33 @@ pub record IsRing (n : ℕ) (r : List ℕ) : Type 0 where
   pub below : (i : ℕ) → i < n → at r i < n
   pub apart : (i j : ℕ) → i < n → j < n → at r i ≡ at r j → i ≡ j
 
--- the same, as a test
+-- the number at i is none of those before it
+abbrev pub fresh : List ℕ → ℕ → Bool
+fresh r i = allBelow i (λ j. not (eqb (at r j) (at r i)))
+
+-- it is a point's, and named for the first time
+abbrev pub named : ℕ → List ℕ → ℕ → Bool
+named n r i = ltb (at r i) n && fresh r i
+
+-- the same as IsRing, as a test
 abbrev pub eachOnce : ℕ → List ℕ → Bool
-eachOnce n r = eqb (length r) n && allBelow n (λ i. ltb (at r i) n && allBelow i (λ j. not (eqb (at r j) (at r i))))
+eachOnce n r = eqb (length r) n && allBelow n (named n r)
 
 -- The position index gives each number's place.
 pub record IsIndex (n : ℕ) (r x : List ℕ) : Type 0 where
   pub size : length x ≡ n
   pub finds : (i : ℕ) → i < n → at x (at r i) ≡ i
+
+-- Ring and index invert each other.
+pub record Indexed (n : ℕ) (r x : List ℕ) : Type 0 where
+  pub ring : IsRing n r
+  pub index : IsIndex n r x
+
+-- The same, but for the points at the positions from p on and before e: of those the index may say anything.
+pub record IndexedBut (n : ℕ) (r x : List ℕ) (p e : ℕ) : Type 0 where
+  pub ring : IsRing n r
+  pub size : length x ≡ n
+  pub finds : (i : ℕ) → i < n → (i < p) ⊎ (e ≤ i) → at x (at r i) ≡ i
 
 -- the position of a number: i, counted on, where the list's first is at i
 abbrev pub placeOf : ℕ → List ℕ → ℕ → ℕ
@@ -58,7 +78,12 @@ placeOf v (a ∷ l) i = cond (eqb a v) i (placeOf v l (suc i))
 abbrev pub indexOf : ℕ → List ℕ → List ℕ
 indexOf n r = map (λ v. placeOf v r 0) (upFrom 0 n)
 
--- ---- changes, as maps on positions
+-- ---- changes
+-- the points at p and q change places
+abbrev pub swap : List ℕ → ℕ → ℕ → List ℕ
+swap r p q = set (set r p (at r q)) q (at r p)
+
+-- A move changes the ring by a map on positions:
 -- the ring that has at i what r has at f i
 abbrev pub moved : ℕ → (ℕ → ℕ) → List ℕ → List ℕ
 moved n f r = map (λ i. at r (f i)) (upFrom 0 n)
