@@ -3,8 +3,10 @@ pub mod Points
 pub mod Places
 pub mod Symmetry
 pub mod Crossing
+pub mod Containing
 pub mod Meeting
 pub mod Height
 pub mod Reading
 pub mod Choosing
 pub mod Signs
+pub mod Boards

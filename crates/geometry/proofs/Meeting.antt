@@ -93,6 +93,18 @@ module _ {a a' b b' : Point} (m : CommonPlace a a' b b') where
           (λ d s t u u' v v'. (d :* v' := wayE d s u u') ⇐ (hyp (lit (negsuc 0)) (wayE d s u u') (wayE d t v v') ∷ hyp (v' :- v) (d :- t) (lit (pos 0)) ∷ [])) tt
 
 module _ (a a' b b' : Point) (nf : (collinear a a' b && collinear a a' b') ≡ false) where
+  on-end : (v : Point) → Ends v a a' → turn a a' v ≡ pos 0
+  on-end v (inl e) = rw e (turn-first a a')
+  on-end v (inr e) = rw e (turn-second a a')
+
+  both-on : turn a a' b ≡ pos 0 → turn a a' b' ≡ pos 0 → ⊥
+  both-on p q = never (collinear a a' b && collinear a a' b') (rw (zero-is (turn a a' b) p, zero-is (turn a a' b') q)) nf
+
+  -- a common end of segments that are not on one line is their only common place
+  pub common-end : (m : CommonPlace a a' b b') (v : Point) → Ends v a a' → Ends v b b' → StandsAt m v
+  common-end m v e (inl f) = rw f (at-first m (on-end b (rw f at e)) (both-on (on-end b (rw f at e))))
+  common-end m v e (inr f) = rw f (at-second m (λ z. both-on z (on-end b' (rw f at e))) (on-end b' (rw f at e)))
+
   crossed-meet : meets a a' b b' ≡ true → Meet a a' b b'
   crossed-meet t = record { place = crossing a a' b b' nf t; no-vertex = λ v p q _. none p q }
     where
@@ -105,18 +117,11 @@ module _ (a a' b b' : Point) (nf : (collinear a a' b && collinear a a' b') ≡ f
   meet-crossed : Meet a a' b b' → meets a a' b b' ≡ true
   meet-crossed m = rw (nf, no-share, not-one-side (m .place), not-one-side (meets-sym (m .place)))
     where
-      on-end : (v : Point) → Ends v a a' → turn a a' v ≡ pos 0
-      on-end v (inl e) = rw e (turn-first a a')
-      on-end v (inr e) = rw e (turn-second a a')
-
-      both-on : turn a a' b ≡ pos 0 → turn a a' b' ≡ pos 0 → ⊥
-      both-on p q = never (collinear a a' b && collinear a a' b') (rw (zero-is (turn a a' b) p, zero-is (turn a a' b') q)) nf
-
       first : Ends b a a' → ⊥
-      first e = m .no-vertex b e (inl refl) (at-first (m .place) (on-end b e) (both-on (on-end b e)))
+      first e = m .no-vertex b e (inl refl) (common-end (m .place) b e (inl refl))
 
       second : Ends b' a a' → ⊥
-      second e = m .no-vertex b' e (inr refl) (at-second (m .place) (λ z. both-on z (on-end b' e)) (on-end b' e))
+      second e = m .no-vertex b' e (inr refl) (common-end (m .place) b' e (inr refl))
 
       no-share : shared a a' b b' ≡ false
       no-share =
@@ -357,8 +362,8 @@ second-way a a' b b' na nb sa =
     (λ h. meet-rev₂ (i .0 (e ∙ h)), λ m. sym e ∙ i .1 (meet-rev₂ m)))
 
 -- THE MEETING: the test decides document 01's words
-pub meets-is : (a a' b b' : Point) → a ≢ a' → b ≢ b' → (meets a a' b b' ≡ true) ↔ Meet a a' b b'
-meets-is a a' b b' na nb =
+pub meets-decides : (a a' b b' : Point) → a ≢ a' → b ≢ b' → (meets a a' b b' ≡ true) ↔ Meet a a' b b'
+meets-decides a a' b b' na nb =
     both (ltP-total a a' na)
     (second-way a a' b b' na nb)
     (λ t. let e = meets-rev a a' b b' in

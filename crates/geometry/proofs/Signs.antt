@@ -86,7 +86,7 @@ meets-signs a b c d e =
     ∙ by-signs (collinear a b c) (collinear a b d) (overlap a b c d) (shared a b c d) (sameSide (turn a b c) (turn a b d)) (sameSide (turn c d a) (turn c d b)) zp (not-shared a b c d zr zs)
 
 -- by values that are the turns
-pub meets-by-signs : (a b c d : Point) {p q r s : ℤ} {z f g : Bool} → p ≡ turn a b c → q ≡ turn a b d → r ≡ turn c d a → s ≡ turn c d b
+pub signs-decide : (a b c d : Point) {p q r s : ℤ} {z f g : Bool} → p ≡ turn a b c → q ≡ turn a b d → r ≡ turn c d a → s ≡ turn c d b
     → z ≡ anyZero p q r s → z ≡ false → f ≡ opposite p q → g ≡ opposite r s → (f && g) ≡ meets a b c d
-meets-by-signs a b c d ep eq er es ez e ef eg =
+signs-decide a b c d ep eq er es ez e ef eg =
     ap₂ _&&_ (ef ∙ ap₂ opposite ep eq) (eg ∙ ap₂ opposite er es) ∙ meets-signs a b c d (sym (λ t. anyZero (ep t) (eq t) (er t) (es t)) ∙ sym ez ∙ e)

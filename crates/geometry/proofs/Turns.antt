@@ -28,6 +28,9 @@ D = pE 6 7
 abbrev pub pts : Point → Point → Point → Point → List ℤ
 pts a b c d = a .x ∷ a .y ∷ b .x ∷ b .y ∷ c .x ∷ c .y ∷ d .x ∷ d .y ∷ []
 
+pub turn-cycle : (a b c : Point) → turn a b c ≡ turn b c a
+turn-cycle a b c = solve (turnE A B C) (turnE B C A) (pts a b c a) tt
+
 pub turn-swap : (a b c : Point) → turn a b c ≡ negℤ (turn b a c)
 turn-swap a b c = solve (turnE A B C) (neg (turnE B A C)) (pts a b c a) tt
 

@@ -3,3 +3,4 @@ pub mod Segment
 pub mod Signs
 pub mod Lent
 pub mod Answers
+pub mod Boards

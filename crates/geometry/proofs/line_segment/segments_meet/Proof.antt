@@ -2,7 +2,7 @@
 use mathlib.Core.Path.{_∙_}
 use Rattle.geometry.specs.Lent.{spot}
 use Rattle.geometry.proofs.Reading.{read-64}
-use Rattle.geometry.proofs.Signs.{fourth-is, fourth-fits, meets-by-signs}
+use Rattle.geometry.proofs.Signs.{fourth-is, fourth-fits, signs-decide}
 use borrow.Author.Needs.{needs}
 use Rattle.geometry.proofs.line_segment.segments_meet.Statement.{statement}
 use Rattle.geometry.proofs.line_segment.segments_meet.Tie as tie
@@ -41,7 +41,7 @@ returns-2 c =
     let q = read-64 (c .before .before .before .before .before .before .turn-of2 .ok) (c .before .before .before .before .before .before .turn-of2 .ensures) in
     let r = read-64 (c .before .before .before .before .before .turn-of3 .ok) (c .before .before .before .before .before .turn-of3 .ensures) in
     let t = read-64 (c .before .before .before .before .fourth .ok) (c .before .before .before .before .fourth .ensures ∙ fourth-is (c .before .before .before .before .before .before .before .before .pre) p q r) in
-    meets-by-signs (spot (s .a)) (spot (s .b)) (spot (s .c)) (spot (s .d)) p q r t (c .before .before .before .any-zero .ensures) (c .before .before .if1 .left) (c .before .opposite-sides .ensures) (c .opposite-sides2 .ensures)
+    signs-decide (spot (s .a)) (spot (s .b)) (spot (s .c)) (spot (s .d)) p q r t (c .before .before .before .any-zero .ensures) (c .before .before .if1 .left) (c .before .opposite-sides .ensures) (c .opposite-sides2 .ensures)
 
 pub segments-meet-spec : {M : Type 1} → statement M
 segments-meet-spec =
