@@ -25,7 +25,7 @@ use Rattle.machine.proofs.Corners.{onto, ring-apart}
 use Rattle.geometry.proofs.Points.{is-below}
 use Rattle.machine.proofs.Runs.{Corner}
 use Rattle.machine.proofs.EdgesMeet.{meetE-comm}
-use Rattle.geometry.proofs.Meeting.{meets-is}
+use Rattle.geometry.proofs.Meeting.{meets-decides}
 use Rattle.machine.proofs.Planned.{least}
 use Rattle.intersection_set.proofs.Records.{counted-is}
 use Rattle.machine.proofs.Scans.{found, fresh-counted, fresh-same, start-count}
@@ -37,7 +37,7 @@ use Rattle.machine.proofs.Finish.{finish-ring, finish-edges, finish-is,
 module _ (n : ℕ) (pt : ℕ → Point) (board : Board n pt) where
   meeting-is : (e f : Edge) → pt (e .lo) ≢ pt (e .hi) → pt (f .lo) ≢ pt (f .hi) → (meetE pt e f ≡ true) ↔ Meet (pt (e .lo)) (pt (e .hi)) (pt (f .lo)) (pt (f .hi))
   unfolding meetE
-  meeting-is e f ne nf = meets-is (pt (e .lo)) (pt (e .hi)) (pt (f .lo)) (pt (f .hi)) ne nf
+  meeting-is e f ne nf = meets-decides (pt (e .lo)) (pt (e .hi)) (pt (f .lo)) (pt (f .hi)) ne nf
 
   -- ---- the fresh search
   module _ (r : List ℕ) (ring : IsRing n r) where

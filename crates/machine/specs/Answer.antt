@@ -20,15 +20,23 @@ pub data Answer : Type 0 where
   -- the loop, the moves made, the records at the start
   delivered : List ℕ → ℕ → ℕ → Answer
 
+-- point i equals none before it
+abbrev pub newPoint : (ℕ → Point) → ℕ → Bool
+newPoint pt i = allBelow i (λ j. not (eqP (pt j) (pt i)))
+
 module _ (n : ℕ) (pt : ℕ → Point) where
   -- the position of the least of the points at 0 to k
   abbrev pub leastTo : List ℕ → ℕ → ℕ
   leastTo r zero = 0
   leastTo r (suc k) = let j = leastTo r k in cond (ltP (ptAt pt r (suc k)) (ptAt pt r j)) (suc k) j
 
+  -- its least point turns clockwise
+  abbrev pub clockwise : List ℕ → Bool
+  clockwise r = ltZ (turnAt n pt r (leastTo r (n - 1))) (pos 0)
+
   -- The loop is reversed whole if its least point turns clockwise.
   abbrev pub finish : List ℕ → List ℕ
-  finish r = cond (ltZ (turnAt n pt r (leastTo r (n - 1))) (pos 0)) (turnedRound n r) r
+  finish r = cond (clockwise r) (turnedRound n r) r
 
   -- the answer of the run t from the starting ring r
   abbrev pub answer : List ℕ → Traced → Answer
@@ -43,7 +51,7 @@ module _ (n : ℕ) (pt : ℕ → Point) where
 
   -- no point equals an earlier one
   abbrev pub noneAlike : Bool
-  noneAlike = allBelow n (λ i. allBelow i (λ j. not (eqP (pt j) (pt i))))
+  noneAlike = allBelow n (newPoint pt)
 
   -- The number of the first check that fails, in number order; 0 if none does. `short`: a lent buffer is too short (check 2).
   abbrev pub refusal : Bool → List ℕ → ℕ
