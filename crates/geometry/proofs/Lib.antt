@@ -1,6 +1,7 @@
 pub mod Turns
 pub mod Points
 pub mod Places
+pub mod Lines
 pub mod Symmetry
 pub mod Crossing
 pub mod Containing

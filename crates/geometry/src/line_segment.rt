@@ -1,6 +1,5 @@
 // Segments (line_segment.rs): what a segment contains, and when two segments meet.
 ghost use mathlib.Core.Path.{_≡_};
-ghost use mathlib.Core.Bool.{_&&_};
 ghost use Prim.Native.Nat.{_≤_};
 ghost use lib.IntN.{_+ℤ_, _-ℤ_};
 ghost use Rattle.algebra.specs.Size.{abs};
