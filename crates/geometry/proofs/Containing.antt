@@ -1,10 +1,9 @@
 -- The test of what a segment contains decides document 01's words, for all segments, whatever the marks of their ends.
-use mathlib.Core.Path.{_≡_, refl, sym, _∙_, ap, ap₂}
-use mathlib.Core.Bool.{Bool, true, false, not, _&&_}
+use mathlib.Core.Path.{_≡_, refl, sym, _∙_, ap₂}
+use mathlib.Core.Bool.{true, false, not, _&&_}
 use mathlib.Core.Logic.{_⊎_, inl, inr, _≢_, _↔_}
 use Prim.Native.Nat.{ℕ}
 use native.Mathlib.Omega.{arith}
-use lib.IntN.{pos}
 use Rattle.algebra.specs.Cases.{both, true-or-false, never, not-true, and-left, and-right}
 use Rattle.geometry.specs.Plane.{Point, turn, eqP, ltP, minP, maxP, collinear}
 use Rattle.geometry.specs.Segment.{End, exclusive, inclusive, NotAfter, Contains, admits, between, contains}

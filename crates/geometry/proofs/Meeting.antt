@@ -15,6 +15,7 @@ use Rattle.geometry.proofs.Places.{wayE, meets-sym, mixed, meets-not-ab
 use Rattle.geometry.specs.Plane.{Point, turn, eqP, ltP, minP, collinear}
 use Rattle.geometry.proofs.Points.{eqP-true, zero-yes, zero-is, point-eq, below-is, not-below, ltP-flip, ltP-total, three, turn-first, turn-second}
 use Rattle.geometry.specs.Segment.{CommonPlace, way, Ends, StandsAt, Meet, sameSide, shared, meets}
+use Rattle.geometry.proofs.Lines.{gap-pos, gap-le, same-x, same-y}
 use Rattle.algebra.specs.Cases.{is-T, and-left, and-right, both, true-or-false, never, or-cases}
 use Rattle.geometry.proofs.Crossing.{crossing, a-b, a-b', a'-b, a'-b'}
 use Rattle.geometry.proofs.Symmetry.{meets-rev, meets-rev₂, meets-swap}
@@ -132,12 +133,6 @@ module _ (a a' b b' : Point) (nf : (collinear a a' b && collinear a a' b') ≡ f
           (λ h. h)
 
 -- ---- on one line, which is not upright: by the x of its points
-gap-pos : (p q : ℤ) → p <ℤ q → pos 0 <ℤ (q -ℤ p)
-gap-pos p q h = omega (zarith, sub q p)
-
-gap-le : (p q : ℤ) → p ≤ℤ q → pos 0 ≤ℤ (q -ℤ p)
-gap-le p q h = omega (zarith, sub q p)
-
 le-sum : (x y z w : ℤ) → w ≡ x +ℤ (y +ℤ z) → pos 0 ≤ℤ y → pos 0 ≤ℤ z → x ≤ℤ w
 le-sum x y z w e h k = omega (zarith, add x (y +ℤ z), add y z)
 
@@ -228,24 +223,6 @@ module _ (a a' b b' u : Point) (la : a .x <ℤ a' .x) (lb : b .x <ℤ b' .x) (lu
           both (no-zero (A *ℤ B) _ (twice (v .x) (a .x) (a' .x) B (u .x) h))
           (λ z. (let w = mul-pos A> B> in omega zarith))
           (off v p)
-
--- on a line that is not upright, the same x is the same place
-same-y : (a a' b : Point) → a .x <ℤ a' .x → turn a a' b ≡ pos 0 → a .x ≡ b .x → a .y ≡ b .y
-same-y a a' b la z ex =
-    both (no-zero (a' .x -ℤ a .x) (a .y -ℤ b .y) (level a a' b z ex)) (λ k. absurd (omega (zarith, sub (a' .x) (a .x)))) (λ k. sub-zero (a .y) (b .y) k)
-  where
-    level : (a a' b : Point) → turn a a' b ≡ pos 0 → a .x ≡ b .x → (a' .x -ℤ a .x) *ℤ (a .y -ℤ b .y) ≡ pos 0
-    level = follows (pair ∷ pair ∷ pair ∷ [])
-        (λ a a' b. ((a' .ex :- a .ex) :* (a .ey :- b .ey) := lit (pos 0)) ⇐ (hyp (lit (negsuc 0)) (turnE a a' b) (lit (pos 0)) ∷ hyp (a' .ey :- a .ey) (a .ex) (b .ex) ∷ [])) tt
-
--- on an upright line all have the same x
-same-x : (a a' v : Point) → a .x ≡ a' .x → a .y <ℤ a' .y → turn a a' v ≡ pos 0 → v .x ≡ a .x
-same-x a a' v e la z =
-    both (no-zero (a' .y -ℤ a .y) (v .x -ℤ a .x) (upright a a' v z e)) (λ k. absurd (omega (zarith, sub (a' .y) (a .y)))) (λ k. sub-zero (v .x) (a .x) k)
-  where
-    upright : (a a' v : Point) → turn a a' v ≡ pos 0 → a .x ≡ a' .x → (a' .y -ℤ a .y) *ℤ (v .x -ℤ a .x) ≡ pos 0
-    upright = follows (pair ∷ pair ∷ pair ∷ [])
-        (λ a a' v. ((a' .ey :- a .ey) :* (v .ex :- a .ex) := lit (pos 0)) ⇐ (hyp (lit (negsuc 0)) (turnE a a' v) (lit (pos 0)) ∷ hyp (neg (v .ey :- a .ey)) (a .ex) (a' .ex) ∷ [])) tt
 
 -- b ends before a begins: they meet nowhere but in a shared end
 module _ (a a' b b' : Point) (la : a .x <ℤ a' .x) (lb : b .x <ℤ b' .x) (le : b' .x ≤ℤ a .x) (z : turn a a' b' ≡ pos 0) where

@@ -20,8 +20,8 @@ use Rattle.geometry.proofs.Points.{zero-is, eqP-true, turn-first, turn-
 use Rattle.geometry.proofs.Reading.{cross-bound, gap-x, gap-y}
 
 -- ---- on one line, and off it
-pub meets-on-line : (a b c d : Point) → parallel a b c d ≡ true → overlap a b c d ≡ meets a b c d
-meets-on-line a b c d e = rw e
+pub meets-on-line : (a b c d : Point) {o : Bool} → o ≡ overlap a b c d → parallel a b c d ≡ true → o ≡ meets a b c d
+meets-on-line a b c d o e = rw e o
 
 pub meets-off-line : (a b c d : Point) → parallel a b c d ≡ false
     → (not (shared a b c d) && (not (sameSide (turn a b c) (turn a b d)) && not (sameSide (turn c d a) (turn c d b)))) ≡ meets a b c d

@@ -2,7 +2,7 @@
 use mathlib.Core.Path.{_≡_, refl, sym, _∙_, ap}
 use mathlib.Core.Bool.{Bool, true, false, not, _&&_, _||_, cond, or-comm, and-comm}
 use mathlib.Core.Logic.{_≢_}
-use Prim.Native.Nat.{ℕ, zero, suc}
+use Prim.Native.Nat.{zero, suc}
 use native.Mathlib.Omega.{arith}
 use lib.IntN.{ℤ, pos, negsuc, negℤ}
 use lib.Signed.{ltZ}
@@ -12,7 +12,7 @@ use Rattle.geometry.proofs.Turns.{turn-swap}
 use Rattle.geometry.specs.Plane.{Point, turn, isZero, eqZ, eqP, ltP, minP, maxP, collinear}
 use Rattle.geometry.specs.Segment.{sameSide, shared, meets}
 use Rattle.geometry.proofs.Points.{eqZ-cases, zero-yes, zero-is, point-eq, not-below, ltP-not, three, turn-first, turn-second}
-use Rattle.algebra.specs.Cases.{and-left, and-right, both, le-cases, true-or-false, same-test}
+use Rattle.algebra.specs.Cases.{and-left, and-right, both, true-or-false, same-test}
 
 -- ---- the smaller and the greater
 level : (a b : Point) → ltP a b ≡ false → ltP b a ≡ false → a ≡ b

@@ -36,15 +36,25 @@ between a b p = not (ltP p (minP a b)) && not (ltP (maxP a b) p)
 abbrev pub contains : Point → End → Point → End → Point → Bool
 contains a ea b eb p = collinear a b p && (between a b p && (admits ea a p && admits eb b p))
 
--- strictly inside the segment from a to b
-abbrev pub inside : Point → Point → Point → Bool
-inside a b p = collinear a b p && (ltP (minP a b) p && ltP p (maxP a b))
-
--- ---- meets
+-- ---- strictly inside
 -- d times the place at s/d of the way from u to v
 abbrev pub way : ℤ → ℤ → ℤ → ℤ → ℤ
 way d s u v = d *ℤ u +ℤ s *ℤ (v -ℤ u)
 
+-- v is strictly inside the segment from a to b: d·v = d·a + s·(b - a) in both coordinates, for whole numbers 0 < s < d.
+pub record Inside (a b v : Point) : Type 0 where
+  pub d : ℤ
+  pub s : ℤ
+  pub s> : pos 0 <ℤ s
+  pub s< : s <ℤ d
+  pub at-x : d *ℤ v .x ≡ way d s (a .x) (b .x)
+  pub at-y : d *ℤ v .y ≡ way d s (a .y) (b .y)
+
+-- the test: strictly between its ends in point order
+abbrev pub inside : Point → Point → Point → Bool
+inside a b p = collinear a b p && (ltP (minP a b) p && ltP p (maxP a b))
+
+-- ---- meets
 -- Whole numbers d > 0, s and t from 0 to d with d·a₁ + s·(a₂ - a₁) = d·b₁ + t·(b₂ - b₁) in both coordinates.
 pub record CommonPlace (a₁ a₂ b₁ b₂ : Point) : Type 0 where
   pub d : ℤ

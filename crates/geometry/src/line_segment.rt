@@ -1,12 +1,10 @@
 // Segments (line_segment.rs): what a segment contains, and when two segments meet.
 ghost use mathlib.Core.Path.{_≡_};
-ghost use mathlib.Core.Bool.{_&&_};
 ghost use Prim.Native.Nat.{_≤_};
 ghost use lib.IntN.{_+ℤ_, _-ℤ_};
 ghost use Rattle.algebra.specs.Size.{abs};
 ghost use Rattle.geometry.specs.Plane.{isZero};
-ghost use Rattle.geometry.specs.Segment.{sameSide};
-ghost use Rattle.geometry.specs.Segment.{admits as lets, between as within, contains as holds, inside, shared, overlap as overlapping, meets as meet};
+ghost use Rattle.geometry.specs.Segment.{admits, between, contains, inside, sameSide, shared, overlap, meets};
 ghost use Rattle.geometry.specs.Signs.{anyZero, opposite};
 ghost use Rattle.geometry.specs.Lent.{spot, points, InRange, Here};
 ghost use Rattle.geometry.specs.Answers.{verdictOf, endOf, markOf, proper, containment, meeting, answered};
@@ -60,7 +58,7 @@ fn is_proper(a: Point, b: Point) -> bool
 
 // An open end leaves itself out.
 fn admits(end: EndPoint, p: Point) -> bool
-    ensures { λ r. ⌜ r ≡ lets (markOf end) (endOf end) (spot p) ⌝ }
+    ensures { λ r. ⌜ r ≡ admits (markOf end) (endOf end) (spot p) ⌝ }
 {
     match end {
         EndPoint::Exclusive(q) => !alike(p, q),
@@ -69,7 +67,7 @@ fn admits(end: EndPoint, p: Point) -> bool
 }
 
 fn between(a: Point, b: Point, p: Point) -> bool
-    ensures { λ r. ⌜ r ≡ within (spot a) (spot b) (spot p) ⌝ }
+    ensures { λ r. ⌜ r ≡ between (spot a) (spot b) (spot p) ⌝ }
 {
     !is_less(p, lesser(a, b)) & !is_less(greater(a, b), p)
 }
@@ -82,7 +80,7 @@ fn is_zero(t: i64) -> bool
 
 fn holds_point(a: EndPoint, b: EndPoint, p: Point) -> bool
     requires { ⌜ InRange (endOf a) × InRange (endOf b) × InRange (spot p) ⌝ }
-    ensures { λ r. ⌜ r ≡ holds (endOf a) (markOf a) (endOf b) (markOf b) (spot p) ⌝ }
+    ensures { λ r. ⌜ r ≡ contains (endOf a) (markOf a) (endOf b) (markOf b) (spot p) ⌝ }
 {
     let first = a.inner();
     let second = b.inner();
@@ -118,7 +116,7 @@ fn same_side(p: i64, q: i64) -> bool
 
 // Two segments on one line have more than an end in common.
 fn overlap(a: Point, b: Point, c: Point, d: Point) -> bool
-    ensures { λ r. ⌜ r ≡ overlapping (spot a) (spot b) (spot c) (spot d) ⌝ }
+    ensures { λ r. ⌜ r ≡ overlap (spot a) (spot b) (spot c) (spot d) ⌝ }
 {
     let from = greater(lesser(a, b), lesser(c, d));
     let to = lesser(greater(a, b), greater(c, d));
@@ -134,7 +132,7 @@ fn share(a: Point, b: Point, c: Point, d: Point) -> bool
 // The rule for all cases: on one line by the order of the ends, else by the sides on which they lie. A shared end is left out.
 fn meet_by_cases(a: Point, b: Point, c: Point, d: Point) -> bool
     requires { ⌜ InRange (spot a) × InRange (spot b) × InRange (spot c) × InRange (spot d) ⌝ }
-    ensures { λ r. ⌜ r ≡ meet (spot a) (spot b) (spot c) (spot d) ⌝ }
+    ensures { λ r. ⌜ r ≡ meets (spot a) (spot b) (spot c) (spot d) ⌝ }
 {
     let p = turn_of(a, b, c);
     let q = turn_of(a, b, d);
@@ -169,7 +167,7 @@ fn fourth(p: i64, q: i64, r: i64) -> i64
 // The segments a b and c d meet: by three turns and with no branch on a sign. All cases are asked only where a turn is 0.
 pub fn segments_meet(a: Point, b: Point, c: Point, d: Point) -> bool
     requires { ⌜ InRange (spot a) × InRange (spot b) × InRange (spot c) × InRange (spot d) ⌝ }
-    ensures { λ r. ⌜ r ≡ meet (spot a) (spot b) (spot c) (spot d) ⌝ }
+    ensures { λ r. ⌜ r ≡ meets (spot a) (spot b) (spot c) (spot d) ⌝ }
 {
     let p = turn_of(a, b, c);
     let q = turn_of(a, b, d);
@@ -202,7 +200,7 @@ pub fn inside_at(x: &[i32], y: &[i32], a: usize, b: usize, v: usize) -> bool
 
 pub fn meets_at(x: &[i32], y: &[i32], a: usize, b: usize, c: usize, d: usize) -> bool
     requires { ⌜ Here (now x) (now y) a × Here (now x) (now y) b × Here (now x) (now y) c × Here (now x) (now y) d ⌝ }
-    ensures { λ r. ⌜ r ≡ meet (points (now (x .entry)) (now (y .entry)) a) (points (now (x .entry)) (now (y .entry)) b) (points (now (x .entry)) (now (y .entry)) c) (points (now (x .entry)) (now (y .entry)) d) ⌝ }
+    ensures { λ r. ⌜ r ≡ meets (points (now (x .entry)) (now (y .entry)) a) (points (now (x .entry)) (now (y .entry)) b) (points (now (x .entry)) (now (y .entry)) c) (points (now (x .entry)) (now (y .entry)) d) ⌝ }
 {
     segments_meet(
         point_at(x, y, a),

@@ -5,7 +5,7 @@ ghost use lib.IntN.{_-ℤ_, _*ℤ_};
 ghost use Rattle.algebra.specs.Size.{abs};
 ghost use Rattle.geometry.specs.Plane.{turn};
 ghost use Rattle.geometry.specs.Lent.{spot, points, InRange, Here};
-ghost use Rattle.geometry.specs.Answers.{sign, turnOf, orientedOf, orientation as answer};
+ghost use Rattle.geometry.specs.Answers.{sign, turnOf, orientedOf, orientation};
 use super::point::Point;
 use super::point::in_range;
 use super::point::point_at;
@@ -71,7 +71,7 @@ fn side_of(t: i64) -> Orientation
 
 // Which way one turns who walks from a to b to c (`Orientation::new`).
 pub fn orient(a: Point, b: Point, c: Point) -> Oriented
-    ensures { λ r. ⌜ orientedOf r ≡ answer (spot a) (spot b) (spot c) ⌝ }
+    ensures { λ r. ⌜ orientedOf r ≡ orientation (spot a) (spot b) (spot c) ⌝ }
 {
     if !(in_range(a) & (in_range(b) & in_range(c))) {
         return Oriented::OutOfRange;

@@ -1,6 +1,5 @@
 // Points (point.rs): their limits and their order.
 ghost use mathlib.Core.Path.{_≡_};
-ghost use mathlib.Core.Bool.{Bool};
 ghost use Rattle.geometry.specs.Plane.{near, nearP, eqP, ltP, minP, maxP};
 ghost use Rattle.geometry.specs.Lent.{spot, points, Here};
 

@@ -1,5 +1,5 @@
 -- `holds_point` meets its contract: its parts are those of the definition, at the points of the two ends.
-use mathlib.Core.Path.{_≡_, sym, _∙_, ap, ap₂, subst}
+use mathlib.Core.Path.{sym, _∙_, ap, ap₂, subst}
 use mathlib.Core.Bool.{_&&_}
 use Rattle.geometry.specs.Plane.{turn, isZero}
 use Rattle.geometry.specs.Segment.{between}

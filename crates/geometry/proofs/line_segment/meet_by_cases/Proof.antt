@@ -30,7 +30,9 @@ overlap-requires : tie.Need-overlap-requires
 overlap-requires c κs = search needs
 
 returns : tie.Need-returns
-returns c = let s = c .before .before .before .before .before .before .args in c .overlap .ensures ∙ meets-on-line (spot (s .a)) (spot (s .b)) (spot (s .c)) (spot (s .d)) (sym (line-is (c .before .before)) ∙ c .before .if1 .taken)
+returns c =
+    let s = c .before .before .before .before .before .before .args in
+    meets-on-line (spot (s .a)) (spot (s .b)) (spot (s .c)) (spot (s .d)) (c .overlap .ensures) (sym (line-is (c .before .before)) ∙ c .before .if1 .taken)
 
 turn-of-requires-3 : tie.Need-turn-of-requires-3
 turn-of-requires-3 c κs = search needs

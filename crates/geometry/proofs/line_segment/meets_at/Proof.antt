@@ -1,5 +1,5 @@
 -- `meets_at` meets its contract: the four points are those of these numbers.
-use mathlib.Core.Path.{_≡_, sym, _∙_, subst}
+use mathlib.Core.Path.{sym, _∙_, subst}
 use Rattle.geometry.specs.Segment.{meets}
 use Rattle.geometry.specs.Lent.{InRange}
 use Rattle.geometry.proofs.Reading.{here-in-range}

@@ -1,6 +1,6 @@
 -- `orient` meets its contract: where every coordinate is within the limits, the answer is the sign of the turn.
 use mathlib.Core.Path.{_≡_, sym, _∙_, ap, ap₂}
-use mathlib.Core.Bool.{true, _&&_}
+use mathlib.Core.Bool.{_&&_}
 use Rattle.algebra.specs.Cases.{not-true, not-false}
 use Rattle.geometry.specs.Plane.{nearP}
 use Rattle.geometry.specs.Lent.{spot}

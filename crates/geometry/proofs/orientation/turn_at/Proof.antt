@@ -1,5 +1,5 @@
 -- `turn_at` meets its contract: the three points are those of these numbers.
-use mathlib.Core.Path.{_≡_, sym, _∙_, subst}
+use mathlib.Core.Path.{sym, _∙_, subst}
 use Rattle.geometry.specs.Plane.{turn}
 use Rattle.geometry.specs.Lent.{InRange}
 use Rattle.geometry.proofs.Reading.{read-64, here-in-range}
