@@ -1,4 +1,4 @@
--- The loops that swap two points at a time come to reversed and joined.
+-- Swapping two points at a time, from the ends of a stretch inward or from a point back, comes to reversed and joined.
 use mathlib.Core.Path.{_≡_, sym, _∙_, ap}
 use mathlib.Core.Bool.{cond}
 use mathlib.Core.List.{List}
@@ -14,7 +14,7 @@ use Rattle.algebra.specs.Cases.{both, le-cases, eq-cases}
 use Rattle.polygon.proofs.Positions.{next-cases, dist-cases, next-lt, prev-lt, next-prev, prev-next, dist-self, dist-lt, dist-inj, dist-suc, dist-zero, dist-pred, flip-lt, flip-in, flip-out, slide-zero, slide-one, slide-in, slide-out}
 use Rattle.polygon.proofs.RingEdges.{moved-at, moved-length}
 
--- the same, on positions
+-- a swap as a map on positions
 abbrev pub trade : ℕ → ℕ → ℕ → ℕ
 trade p q i = cond (eqb i p) q (cond (eqb i q) p i)
 
@@ -192,7 +192,7 @@ module _ (n : ℕ) (r : List ℕ) (e k : ℕ) (lr : length r ≡ n) (le : e < n)
       moved-is n (slide n e k) r (joined n (swap r (prev n k) k) e (prev n k)) (moved-length n (slide n e (prev n k)) (swap r (prev n k) k))
       (λ i l. moved-at n (slide n e (prev n k)) (swap r (prev n k) k) i l ∙ swap-at r (prev n k) k (slide n e (prev n k) i) (omega arith) (omega arith) ∙ ap (at r) (slide-step n e k le lk m i l))
 
--- ---- the loops' invariants, for the code: to finish from here comes to the same ring
+-- ---- the loops' invariants: to finish from here comes to the same ring
 pub record Turning (n : ℕ) (r₀ : List ℕ) (p q : ℕ) (r : List ℕ) (a b : ℕ) : Type 0 where
   pub len : length r ≡ n
   pub la : a < n

@@ -1,4 +1,4 @@
--- The position index: where each point stands. A swap keeps it; the edge that is sought is found.
+-- The position index: it is the only list that inverts the ring, a swap carries it along, and an edge is found by it.
 use mathlib.Core.Path.{_≡_, refl, sym, _∙_, ap}
 use mathlib.Core.Bool.{true, false, cond}
 use mathlib.Core.List.{List, [], _∷_}

@@ -1,4 +1,4 @@
--- Positions on a ring: the laws of next, prev, dist and back.
+-- Positions on a ring: the laws of next, prev, dist and back, and of the maps flip and slide.
 use mathlib.Core.Path.{_≡_, sym, _∙_, ap}
 use mathlib.Core.Logic.{_⊎_, inl, inr, _≢_}
 use Prim.Native.Nat.{ℕ, suc, _+_, _≤_, _<_}
