@@ -1,9 +1,9 @@
--- The loops that swap two points at a time come to reversed and joined.
+-- Swapping two points at a time, from the ends of a stretch inward or from a point back, comes to reversed and joined.
 use mathlib.Core.Path.{_≡_, sym, _∙_, ap}
 use mathlib.Core.Bool.{cond}
 use mathlib.Core.List.{List}
 use mathlib.Core.Logic.{_≢_}
-use Prim.Native.Nat.{ℕ, zero, suc, _-_, _*_, _≤_, _<_}
+use Prim.Native.Nat.{ℕ, suc, _≤_, _<_}
 use native.Mathlib.Omega.{arith}
 use lib.Dec.{eqb}
 use lib.ListN.{length, set, length-set}
@@ -14,7 +14,7 @@ use Rattle.algebra.specs.Cases.{both, le-cases, eq-cases}
 use Rattle.polygon.proofs.Positions.{next-cases, dist-cases, next-lt, prev-lt, next-prev, prev-next, dist-self, dist-lt, dist-inj, dist-suc, dist-zero, dist-pred, flip-lt, flip-in, flip-out, slide-zero, slide-one, slide-in, slide-out}
 use Rattle.polygon.proofs.RingEdges.{moved-at, moved-length}
 
--- the same, on positions
+-- a swap as a map on positions
 abbrev pub trade : ℕ → ℕ → ℕ → ℕ
 trade p q i = cond (eqb i p) q (cond (eqb i q) p i)
 
@@ -82,7 +82,7 @@ module _ (n p q : ℕ) (lp : p < n) (lq : q < n) where
       both (eq-cases i q)
       (λ k. let e = ap D (k .0) in trade-second p q i (k .0) ∙ dist-inj n p lp p (flip n p q i) lp fl (omega arith))
       (λ k. let o' : D i ≢ D q = λ e. k .0 (dist-inj n p lp i q l lq e) in trade-other p q i (g .0) (k .0) ∙ dist-inj n p lp i (flip n p q i) l fl (omega arith))))
-      (λ h. trade-other p q i (λ e. (let e' = ap D e in omega arith)) (λ e. (let e' = ap D e in omega arith)) ∙ sym (flip-out n p q lp lq i (h .0)))
+      (λ h. trade-other p q i (λ e. (let e' = ap D e in omega arith)) (λ e. (let e' = ap D e in omega arith)) ∙ sym (flip-out n p q i (h .0)))
 
   -- a swap, and the stretch inside is left to turn
   pub flip-step : 1 < D q → (i : ℕ) → i < n → trade p q (flip n (next n p) (prev n q) i) ≡ flip n p q i
@@ -100,7 +100,7 @@ module _ (n p q : ℕ) (lp : p < n) (lq : q < n) where
       both (eq-cases (D i) 0)
       (λ g. let ip = dist-zero n p lp i l (g .0) in
       let di = ap (λ j. suc (dist n (next n p) j)) ip in
-      let e : f' i ≡ i = flip-out n (next n p) (prev n q) lp' lq' i (omega arith) in
+      let e : f' i ≡ i = flip-out n (next n p) (prev n q) i (omega arith) in
       trade-first p q (f' i) (e ∙ ip) ∙ dist-inj n p lp q (flip n p q i) lq fl (omega (arith, flip-in n p q lp lq i (omega arith))))
       (λ g. let di : suc (dist n (next n p) i) ≡ D i = dist-behind n p lp i l (omega arith) in
       both (le-cases (D i) (D (prev n q)))
@@ -111,10 +111,10 @@ module _ (n p q : ℕ) (lp : p < n) (lq : q < n) where
       let df : suc (dist n (next n p) (f' i)) ≡ D (f' i) = dist-behind n p lp (f' i) fl' (omega arith) in
       trade-other p q (f' i) (λ x. (let y = ap D x in omega arith)) (λ x. (let y = ap D x in omega arith)) ∙ dist-inj n p lp (f' i) (flip n p q i) fl' fl (omega arith))
       (λ h.
-      let e : f' i ≡ i = flip-out n (next n p) (prev n q) lp' lq' i (omega arith) in
+      let e : f' i ≡ i = flip-out n (next n p) (prev n q) i (omega arith) in
       both (eq-cases (D i) (D q))
       (λ k. trade-second p q (f' i) (e ∙ dist-inj n p lp i q l lq (k .0)) ∙ dist-inj n p lp p (flip n p q i) lp fl (omega (arith, flip-in n p q lp lq i (omega arith))))
-      (λ k. ap (trade p q) e ∙ trade-other p q i (λ x. (let y = ap D x in omega arith)) (λ x. k .0 (ap D x)) ∙ sym (flip-out n p q lp lq i (omega arith)))))
+      (λ k. ap (trade p q) e ∙ trade-other p q i (λ x. (let y = ap D x in omega arith)) (λ x. k .0 (ap D x)) ∙ sym (flip-out n p q i (omega arith)))))
 
 module _ (n : ℕ) (r : List ℕ) (p q : ℕ) (lr : length r ≡ n) (lp : p < n) (lq : q < n) where
   pub reverse-last : 0 < dist n p q → dist n p q ≤ 2 → swap r p q ≡ reversed n r p q
@@ -149,27 +149,6 @@ step-more n p q lp lq o e =
     (λ h. absurd (e (dist-inj n p lp (next n p) q (next-lt n p lp) lq (dist-suc n p lp p lp (omega (arith, dist-lt n p lp q lq)) ∙ ap suc z ∙ sym (h .0)))))
     (λ h. omega arith)
 
--- the loop of vertices_reverse: swap; pt1 on, stop if they meet; pt2 back, stop if they meet
-abbrev pub turnLoop : ℕ → ℕ → List ℕ → ℕ → ℕ → List ℕ
-turnLoop n zero r p q = r
-turnLoop n (suc k) r p q =
-    let more = turnLoop n k (swap r p q) (next n p) (prev n q) in
-    cond (eqb (next n p) q) (swap r p q) (cond (eqb (next n p) (prev n q)) (swap r p q) more)
-
-pub turn-loop : (n k : ℕ) (r : List ℕ) (p q : ℕ) → length r ≡ n → p < n → q < n → p ≢ q → dist n p q ≤ 2 * k → turnLoop n k r p q ≡ reversed n r p q
-turn-loop n zero r p q lr lp lq o h = absurd (o (sym (dist-zero n p lp q lq (omega arith))))
-turn-loop n (suc k) r p q lr lp lq o h =
-    let lp' = next-lt n p lp in
-    let lq' = prev-lt n q lq in
-    both (eq-cases (next n p) q)
-    (λ g. let m = step-one n p q lp lq o (g .0) in rw (g .1) (reverse-last n r p q lr lp lq (omega arith) (omega arith)))
-    (λ g.
-    let m = step-more n p q lp lq o (g .0) in
-    let d = dist-inward n p q lp lq m in
-    both (eq-cases (next n p) (prev n q))
-    (λ f. let z = ap (dist n (next n p)) (f .0) in rw (g .1, f .1) (reverse-last n r p q lr lp lq (omega arith) (omega (arith, dist-self n (next n p) lp'))))
-    (λ f. rw (g .1, f .1) (turn-loop n k (swap r p q) (next n p) (prev n q) (swap-length r p q ∙ lr) lp' lq' (f .0) (omega arith) ∙ reverse-step n r p q lr lp lq m)))
-
 -- ---- joining, from k back
 module _ (n e k : ℕ) (le : e < n) (lk : k < n) where
   abbrev E : ℕ → ℕ
@@ -178,10 +157,10 @@ module _ (n e k : ℕ) (le : e < n) (lk : k < n) where
   pub slide-last : E k ≡ 1 → (i : ℕ) → i < n → i ≡ slide n e k i
   slide-last m i l =
       both (eq-cases (E i) 0)
-      (λ h. sym (slide-zero n e k le lk i (h .0)))
+      (λ h. sym (slide-zero n e k i (h .0)))
       (λ h. both (eq-cases (E i) 1)
-      (λ g. dist-inj n e le i k l lk (g .0 ∙ sym m) ∙ sym (slide-one n e k le lk i (g .0)))
-      (λ g. sym (slide-out n e k le lk i (omega arith) (omega arith))))
+      (λ g. dist-inj n e le i k l lk (g .0 ∙ sym m) ∙ sym (slide-one n e k i (g .0)))
+      (λ g. sym (slide-out n e k i (omega arith) (omega arith))))
 
   pub slide-step : 1 < E k → (i : ℕ) → i < n → trade (prev n k) k (slide n e (prev n k) i) ≡ slide n e k i
   slide-step m i l =
@@ -190,17 +169,17 @@ module _ (n e k : ℕ) (le : e < n) (lk : k < n) where
       let s = slide n e (prev n k) in
       let other : (j : ℕ) → E j ≢ E k → suc (E j) ≢ E k → trade (prev n k) k j ≡ j = λ j a b. trade-other (prev n k) k j (λ x. (let y = ap E x in omega arith)) (λ x. a (ap E x)) in
       both (eq-cases (E i) 0)
-      (λ h. let a = slide-zero n e (prev n k) le lk' i (h .0) in ap (trade (prev n k) k) a ∙ other i (omega arith) (omega arith) ∙ sym (slide-zero n e k le lk i (h .0)))
+      (λ h. let a = slide-zero n e (prev n k) i (h .0) in ap (trade (prev n k) k) a ∙ other i (omega arith) (omega arith) ∙ sym (slide-zero n e k i (h .0)))
       (λ h. both (eq-cases (E i) 1)
-      (λ g. trade-first (prev n k) k (s i) (slide-one n e (prev n k) le lk' i (g .0)) ∙ sym (slide-one n e k le lk i (g .0)))
+      (λ g. trade-first (prev n k) k (s i) (slide-one n e (prev n k) i (g .0)) ∙ sym (slide-one n e k i (g .0)))
       (λ g. both (le-cases (E i) (E (prev n k)))
-      (λ f. let a = slide-in n e (prev n k) le lk' i (omega arith) (f .0) in
+      (λ f. let a = slide-in n e (prev n k) i (omega arith) (f .0) in
       let di = dist-pred n e le i l (omega arith) in
-      ap (trade (prev n k) k) a ∙ other (prev n i) (omega arith) (omega arith) ∙ sym (slide-in n e k le lk i (omega arith) (omega arith)))
-      (λ f. let a = slide-out n e (prev n k) le lk' i (omega arith) (f .0) in
+      ap (trade (prev n k) k) a ∙ other (prev n i) (omega arith) (omega arith) ∙ sym (slide-in n e k i (omega arith) (omega arith)))
+      (λ f. let a = slide-out n e (prev n k) i (omega arith) (f .0) in
       ap (trade (prev n k) k) a ∙ both (eq-cases (E i) (E k))
-      (λ c. let ik = dist-inj n e le i k l lk (c .0) in trade-second (prev n k) k i ik ∙ sym (slide-in n e k le lk i (omega arith) (omega arith) ∙ ap (prev n) ik))
-      (λ c. other i (c .0) (omega arith) ∙ sym (slide-out n e k le lk i (omega arith) (omega arith))))))
+      (λ c. let ik = dist-inj n e le i k l lk (c .0) in trade-second (prev n k) k i ik ∙ sym (slide-in n e k i (omega arith) (omega arith) ∙ ap (prev n) ik))
+      (λ c. other i (c .0) (omega arith) ∙ sym (slide-out n e k i (omega arith) (omega arith))))))
 
 module _ (n : ℕ) (r : List ℕ) (e k : ℕ) (lr : length r ≡ n) (le : e < n) (lk : k < n) where
   pub join-last : dist n e k ≡ 1 → r ≡ joined n r e k
@@ -213,25 +192,7 @@ module _ (n : ℕ) (r : List ℕ) (e k : ℕ) (lr : length r ≡ n) (le : e < n)
       moved-is n (slide n e k) r (joined n (swap r (prev n k) k) e (prev n k)) (moved-length n (slide n e (prev n k)) (swap r (prev n k) k))
       (λ i l. moved-at n (slide n e (prev n k)) (swap r (prev n k) k) i l ∙ swap-at r (prev n k) k (slide n e (prev n k) i) (omega arith) (omega arith) ∙ ap (at r) (slide-step n e k le lk m i l))
 
--- the loop of vertices_join: while the point before pt2 is not pt1, swap it with pt2 and go back
-abbrev pub joinLoop : ℕ → ℕ → List ℕ → ℕ → ℕ → List ℕ
-joinLoop n zero r e k = r
-joinLoop n (suc c) r e k =
-    let more = joinLoop n c (swap r (prev n k) k) e (prev n k) in
-    cond (eqb (prev n k) e) r more
-
-pub join-loop : (n c : ℕ) (r : List ℕ) (e k : ℕ) → length r ≡ n → e < n → k < n → e ≢ k → dist n e k ≤ c → joinLoop n c r e k ≡ joined n r e k
-join-loop n zero r e k lr le lk o h = absurd (o (sym (dist-zero n e le k lk (omega arith))))
-join-loop n (suc c) r e k lr le lk o h =
-    let lk' = prev-lt n k lk in
-    both (eq-cases (prev n k) e)
-    (λ g. rw (g .1) (join-last n r e k lr le lk (step-one n e k le lk o (ap (next n) (sym (g .0)) ∙ next-prev n k lk))))
-    (λ g.
-    let m = step-more n e k le lk o (λ x. g .0 (ap (prev n) (sym x) ∙ prev-next n e le)) in
-    let d = dist-pred n e le k lk (omega arith) in
-    rw (g .1) (join-loop n c (swap r (prev n k) k) e (prev n k) (swap-length r (prev n k) k ∙ lr) le lk' (λ x. g .0 (sym x)) (omega arith) ∙ join-step n r e k lr le lk m))
-
--- ---- the loops' invariants, for the code: to finish from here comes to the same ring
+-- ---- the loops' invariants: to finish from here comes to the same ring
 pub record Turning (n : ℕ) (r₀ : List ℕ) (p q : ℕ) (r : List ℕ) (a b : ℕ) : Type 0 where
   pub len : length r ≡ n
   pub la : a < n

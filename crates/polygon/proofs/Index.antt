@@ -1,4 +1,4 @@
--- The position index: where each point stands. A swap keeps it; the edge that is sought is found.
+-- The position index: it is the only list that inverts the ring, a swap carries it along, and an edge is found by it.
 use mathlib.Core.Path.{_≡_, refl, sym, _∙_, ap}
 use mathlib.Core.Bool.{true, false, cond}
 use mathlib.Core.List.{List, [], _∷_}
@@ -94,27 +94,26 @@ counted-all {n} {i} {l} h k =
     ext-getD 0 l (upFrom 0 n) (size ∙ sym (upFrom-length 0 n)) (λ j g. k .entry j (omega arith) ∙ sym (list-at 0 n j (omega arith) ∙ omega arith))
 
 -- ---- the search for a point, and for an edge
-module _ (n : ℕ) where
-  pub place-at : (v : ℕ) (l : List ℕ) (s i : ℕ) → i < length l → at l i ≡ v → ((j : ℕ) → j < i → at l j ≢ v) → placeOf v l s ≡ s + i
-  place-at v [] s i h e o = absurd (omega arith)
-  place-at v (a ∷ l) s zero h e o = rw (eq-eqb a v e) (omega arith)
-  place-at v (a ∷ l) s (suc i) h e o = rw (ne-eqb a v (o 0 (omega arith))) (place-at v l (suc s) i (omega arith) e (λ j k. o (suc j) (omega arith)) ∙ omega arith)
+place-at : (v : ℕ) (l : List ℕ) (s i : ℕ) → i < length l → at l i ≡ v → ((j : ℕ) → j < i → at l j ≢ v) → placeOf v l s ≡ s + i
+place-at v [] s i h e o = absurd (omega arith)
+place-at v (a ∷ l) s zero h e o = rw (eq-eqb a v e) (omega arith)
+place-at v (a ∷ l) s (suc i) h e o = rw (ne-eqb a v (o 0 (omega arith))) (place-at v l (suc s) i (omega arith) e (λ j k. o (suc j) (omega arith)) ∙ omega arith)
 
-  module _ (r : List ℕ) (ring : IsRing n r) where
-    pub place-of : (i : ℕ) → i < n → placeOf (at r i) r 0 ≡ i
-    place-of i l =
-        let lr = ring .len in
-        place-at (at r i) r 0 i (omega arith) refl (λ j k e. (let z = ring .apart j i (omega arith) l e in omega arith)) ∙ omega arith
+module _ (n : ℕ) (r : List ℕ) (ring : IsRing n r) where
+  pub place-of : (i : ℕ) → i < n → placeOf (at r i) r 0 ≡ i
+  place-of i l =
+      let lr = ring .len in
+      place-at (at r i) r 0 i (omega arith) refl (λ j k e. (let z = ring .apart j i (omega arith) l e in omega arith)) ∙ omega arith
 
-    -- the edge at i is found at i
-    pub direct-edge : 3 ≤ n → (i : ℕ) → i < n → direct n r (edgeAt n r i) ≡ i
-    direct-edge three i l =
-        let l' = next-lt n i l in
-        let pi = place-of i l in
-        let pn = place-of (next n i) l' in
-        both (le-cases (suc (at r i)) (at r (next n i)))
-        (λ h. rw (h .1) (rw (pi, pn) (rw (eq-eqb (next n i) (next n i) refl))))
-        (λ h. rw (h .1) (rw (pi, pn) (rw (ne-eqb (next n (next n i)) i (λ z. next-next n i (next n i) three l (sym z) refl)))))
+  -- the edge at i is found at i
+  pub direct-edge : 3 ≤ n → (i : ℕ) → i < n → direct n r (edgeAt n r i) ≡ i
+  direct-edge three i l =
+      let l' = next-lt n i l in
+      let pi = place-of i l in
+      let pn = place-of (next n i) l' in
+      both (le-cases (suc (at r i)) (at r (next n i)))
+      (λ h. rw (h .1) (rw (pi, pn) (rw (eq-eqb (next n i) (next n i) refl))))
+      (λ h. rw (h .1) (rw (pi, pn) (rw (ne-eqb (next n (next n i)) i (λ z. next-next n i (next n i) three l (sym z) refl)))))
 
 -- ---- the index of a ring is one, and the only one
 module _ {n : ℕ} {r : List ℕ} (ring : IsRing n r) where

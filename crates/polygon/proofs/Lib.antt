@@ -5,6 +5,7 @@ pub mod InPlace
 pub mod Reverser
 pub mod Index
 pub mod PositionLoops
+pub mod EdgesAfter
 pub mod Uncrossing
 pub mod Hoisting
 pub mod LaidEdges

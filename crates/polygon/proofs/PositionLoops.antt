@@ -9,7 +9,7 @@ use lib.Dec.{eqb}
 use borrow.Author.Tests.{eqb-true, eqb-false}
 use Rattle.polygon.specs.declared.position.Position.{Position}
 use Rattle.polygon.specs.Place.{position, Apart}
-use Rattle.polygon.specs.Ring.{next, prev, dist, swap, reversed, joined, indexOf, IsRing, Indexed}
+use Rattle.polygon.specs.Ring.{next, prev, dist, swap, reversed, joined, indexOf, Indexed}
 use Rattle.polygon.proofs.Positions.{prev-lt}
 use Rattle.polygon.proofs.InPlace.{Turning, turn-met, turn-met-back, turn-goes, turn-falls, Joining, join-met, join-goes, join-falls}
 use Rattle.polygon.proofs.Index.{swap-ring, indexed-is, indexed-of}

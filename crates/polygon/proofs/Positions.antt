@@ -1,7 +1,7 @@
--- Positions on a ring: the laws of next, prev, dist and back.
+-- Positions on a ring: the laws of next, prev, dist and back, and of the maps flip and slide.
 use mathlib.Core.Path.{_≡_, sym, _∙_, ap}
 use mathlib.Core.Logic.{_⊎_, inl, inr, _≢_}
-use Prim.Native.Nat.{ℕ, suc, _+_, _-_, _≤_, _<_}
+use Prim.Native.Nat.{ℕ, suc, _+_, _≤_, _<_}
 use native.Mathlib.Omega.{arith}
 use borrow.Author.Tests.{le-leb, lt-leb, eq-eqb, ne-eqb}
 use Rattle.polygon.specs.Ring.{next, prev, dist, back, flip, slide}
@@ -19,6 +19,9 @@ dist-cases n p i l = elim (le-cases p i) [ inl h ↦ inl (h .0, rw (h .1) (omega
 
 pub back-cases : (n q k : ℕ) → k < n → ((k ≤ q) × (back n q k + k ≡ q)) ⊎ ((q < k) × (back n q k + k ≡ q + n))
 back-cases n q k l = elim (le-cases k q) [ inl h ↦ inl (h .0, rw (h .1) (omega arith)) | inr h ↦ inr (h .0, rw (h .1) (omega arith)) ]
+
+pub back-lt : (n q k : ℕ) → q < n → k < n → back n q k < n
+back-lt n q k lq l = both (back-cases n q k l) (λ h. omega arith) (λ h. omega arith)
 
 module _ (n i : ℕ) (l : i < n) where
   pub next-lt : next n i < n
@@ -86,9 +89,6 @@ module _ (n p : ℕ) (lp : p < n) where
   pub dist-zero : (i : ℕ) → i < n → dist n p i ≡ 0 → i ≡ p
   dist-zero i l h = dist-inj i p l lp (h ∙ sym dist-self)
 
-  pub back-lt : (q k : ℕ) → q < n → k < n → back n q k < n
-  back-lt q k lq l = both (back-cases n q k l) (λ h. omega arith) (λ h. omega arith)
-
   -- k places back from q, where that does not pass p
   pub dist-back : (q k : ℕ) → q < n → k ≤ dist n p q → dist n p (back n q k) + k ≡ dist n p q
   dist-back q k lq l =
@@ -102,51 +102,52 @@ module _ (n p : ℕ) (lp : p < n) where
       (λ g. both (dist-cases n p (back n q k) lp) (λ f. omega arith) (λ f. omega arith)))
 
 -- ---- reversing: the places from p on to q change ends
+pub flip-out : (n p q i : ℕ) → dist n p q < dist n p i → flip n p q i ≡ i
+flip-out n p q i h = rw (lt-leb (dist n p i) (dist n p q) h)
+
 module _ (n p q : ℕ) (lp : p < n) (lq : q < n) where
   pub flip-in : (i : ℕ) → dist n p i ≤ dist n p q → dist n p (flip n p q i) + dist n p i ≡ dist n p q
   flip-in i h = rw (le-leb (dist n p i) (dist n p q) h) (dist-back n p lp q (dist n p i) lq h)
 
-  pub flip-out : (i : ℕ) → dist n p q < dist n p i → flip n p q i ≡ i
-  flip-out i h = rw (lt-leb (dist n p i) (dist n p q) h)
-
   pub flip-lt : (i : ℕ) → i < n → flip n p q i < n
-  flip-lt i l = both (le-cases (dist n p i) (dist n p q)) (λ h. rw (h .1) (back-lt n p lp q (dist n p i) lq (dist-lt n p lp i l))) (λ h. rw (h .1) l)
+  flip-lt i l = both (le-cases (dist n p i) (dist n p q)) (λ h. rw (h .1) (back-lt n q (dist n p i) lq (dist-lt n p lp i l))) (λ h. rw (h .1) l)
 
   pub flip-flip : (i : ℕ) → i < n → flip n p q (flip n p q i) ≡ i
   flip-flip i l =
       both (le-cases (dist n p i) (dist n p q))
       (λ h. let e = flip-in i (h .0) in dist-inj n p lp _ _ (flip-lt _ (flip-lt i l)) l (omega (arith, flip-in (flip n p q i) (omega arith))))
-      (λ h. let e = flip-out i (h .0) in ap (flip n p q) e ∙ e)
+      (λ h. let e = flip-out n p q i (h .0) in ap (flip n p q) e ∙ e)
 
   pub flip-inj : (i j : ℕ) → i < n → j < n → flip n p q i ≡ flip n p q j → i ≡ j
   flip-inj i j li lj e = sym (flip-flip i li) ∙ ap (flip n p q) e ∙ flip-flip j lj
 
 -- ---- joining: k comes to stand right behind e, and those between move on by one
+module _ (n e k i : ℕ) where
+  pub slide-zero : dist n e i ≡ 0 → slide n e k i ≡ i
+  slide-zero h = rw (eq-eqb (dist n e i) 0 h)
+
+  pub slide-one : dist n e i ≡ 1 → slide n e k i ≡ k
+  slide-one h = rw (ne-eqb (dist n e i) 0 (omega arith), eq-eqb (dist n e i) 1 h)
+
+  pub slide-in : 1 < dist n e i → dist n e i ≤ dist n e k → slide n e k i ≡ prev n i
+  slide-in h g = rw (ne-eqb (dist n e i) 0 (omega arith), ne-eqb (dist n e i) 1 (omega arith), le-leb (dist n e i) (dist n e k) g)
+
+  pub slide-out : 1 < dist n e i → dist n e k < dist n e i → slide n e k i ≡ i
+  slide-out h g = rw (ne-eqb (dist n e i) 0 (omega arith), ne-eqb (dist n e i) 1 (omega arith), lt-leb (dist n e i) (dist n e k) g)
+
 module _ (n e k : ℕ) (le : e < n) (lk : k < n) where
-  pub slide-zero : (i : ℕ) → dist n e i ≡ 0 → slide n e k i ≡ i
-  slide-zero i h = rw (eq-eqb (dist n e i) 0 h)
-
-  pub slide-one : (i : ℕ) → dist n e i ≡ 1 → slide n e k i ≡ k
-  slide-one i h = rw (ne-eqb (dist n e i) 0 (omega arith), eq-eqb (dist n e i) 1 h)
-
-  pub slide-in : (i : ℕ) → 1 < dist n e i → dist n e i ≤ dist n e k → slide n e k i ≡ prev n i
-  slide-in i h g = rw (ne-eqb (dist n e i) 0 (omega arith), ne-eqb (dist n e i) 1 (omega arith), le-leb (dist n e i) (dist n e k) g)
-
-  pub slide-out : (i : ℕ) → 1 < dist n e i → dist n e k < dist n e i → slide n e k i ≡ i
-  slide-out i h g = rw (ne-eqb (dist n e i) 0 (omega arith), ne-eqb (dist n e i) 1 (omega arith), lt-leb (dist n e i) (dist n e k) g)
-
   -- the four cases, counted from e
   pub slide-cases : 0 < dist n e k → (i : ℕ) → i < n →
       ((dist n e i ≡ 0) × (dist n e (slide n e k i) ≡ 0)) ⊎ ((dist n e i ≡ 1) × (dist n e (slide n e k i) ≡ dist n e k))
       ⊎ ((1 < dist n e i) × (dist n e i ≤ dist n e k) × (suc (dist n e (slide n e k i)) ≡ dist n e i)) ⊎ ((dist n e k < dist n e i) × (dist n e (slide n e k i) ≡ dist n e i))
   slide-cases m i l =
       both (eq-cases (dist n e i) 0)
-      (λ h. inl (h .0, ap (dist n e) (slide-zero i (h .0)) ∙ h .0))
+      (λ h. inl (h .0, ap (dist n e) (slide-zero n e k i (h .0)) ∙ h .0))
       (λ h. both (eq-cases (dist n e i) 1)
-      (λ g. inr (inl (g .0, ap (dist n e) (slide-one i (g .0)))))
+      (λ g. inr (inl (g .0, ap (dist n e) (slide-one n e k i (g .0)))))
       (λ g. both (le-cases (dist n e i) (dist n e k))
-      (λ f. inr (inr (inl (omega arith, f .0, ap (λ j. suc (dist n e j)) (slide-in i (omega arith) (f .0)) ∙ dist-pred n e le i l (omega arith)))))
-      (λ f. inr (inr (inr (f .0, ap (dist n e) (slide-out i (omega arith) (f .0))))))))
+      (λ f. inr (inr (inl (omega arith, f .0, ap (λ j. suc (dist n e j)) (slide-in n e k i (omega arith) (f .0)) ∙ dist-pred n e le i l (omega arith)))))
+      (λ f. inr (inr (inr (f .0, ap (dist n e) (slide-out n e k i (omega arith) (f .0))))))))
 
   pub slide-lt : (i : ℕ) → i < n → slide n e k i < n
   slide-lt i l =

@@ -4,8 +4,8 @@ use mathlib.Core.Path.{_≡_, refl, sym, _∙_, ap}
 use mathlib.Core.List.{List, [], _∷_, _++_, reverse, reverse-cons}
 use mathlib.Core.Logic.{_⊎_, inl, inr}
 use native.Mathlib.Omega.{arith}
-use lib.ListN.{length, getD, set, take, drop, length-set, length-reverse, length-append, length-drop, List·getD-append}
-use lib.Seq.{length-take-le, getD-set-same, getD-set-other, getD-append-seam, getD-append-add, getD-take, getD-drop, ext-getD}
+use lib.ListN.{length, take, drop, length-reverse, length-append, length-drop, List·getD-append}
+use lib.Seq.{length-take-le, getD-append-seam, getD-append-add, getD-take, getD-drop, ext-getD}
 use Rattle.algebra.specs.Cases.{both, le-cases, eq-cases}
 use Rattle.polygon.specs.Ring.{dist, at, swap, flip, reversed, Indexed, IndexedBut}
 use Rattle.polygon.proofs.Positions.{dist-cases, flip-in, flip-out}
@@ -78,10 +78,10 @@ module _ (n p q : ℕ) (pq : p < q) (lq : q < n) where
       (λ h. absurd (omega arith))
 
   pub flip-before : (i : ℕ) → i < p → flip n p q i ≡ i
-  flip-before i a = both (dist-cases n p i (omega arith)) (λ h. absurd (omega arith)) (λ h. flip-out n p q (omega arith) lq i (omega (arith, dist-end)))
+  flip-before i a = both (dist-cases n p i (omega arith)) (λ h. absurd (omega arith)) (λ h. flip-out n p q i (omega (arith, dist-end)))
 
   pub flip-behind : (i : ℕ) → q < i → flip n p q i ≡ i
-  flip-behind i a = both (dist-cases n p i (omega arith)) (λ h. flip-out n p q (omega arith) lq i (omega (arith, dist-end))) (λ h. absurd (omega arith))
+  flip-behind i a = both (dist-cases n p i (omega arith)) (λ h. flip-out n p q i (omega (arith, dist-end))) (λ h. absurd (omega arith))
 
   -- the ring with its part from p on to q reversed where it lies
   module _ (r : List ℕ) (lr : length r ≡ n) where

@@ -1,17 +1,16 @@
 -- Rings and their edges: the point at a position, membership, and that edges at different positions differ.
 use mathlib.Core.Path.{_≡_, refl, sym, _∙_, ap, ap₂}
 use mathlib.Core.Bool.{true, false}
-use mathlib.Core.List.{List, _∷_, map}
+use mathlib.Core.List.{List, map}
 use mathlib.Core.Logic.{_⊎_, inl, inr, _≢_}
-use Prim.Native.Nat.{ℕ, zero, suc, _+_, _-_, _≤_, _<_}
+use Prim.Native.Nat.{ℕ, zero, suc, _+_, _≤_, _<_}
 use native.Mathlib.Omega.{arith}
-use lib.ListN.{length, getD, length-map}
-use borrow.Author.Tests.{eq-eqb}
+use lib.ListN.{length, length-map}
 use Rattle.index_edge.specs.Edge.{Edge, edge, eqE, memberE}
 use Rattle.algebra.specs.Ranges.{upFrom, upFrom-length, table-at}
 use Rattle.polygon.specs.Ring.{next, dist, at, moved, flip, reversed, slide, joined, IsRing}
 use Rattle.polygon.specs.Edges.{edgeAt, edges, IsEdge}
-use Rattle.algebra.specs.Cases.{both, le-cases, eq-cases, true-or-false, never, or-cases, or-right}
+use Rattle.algebra.specs.Cases.{both, eq-cases, never, or-cases, or-right}
 use Rattle.index_edge.proofs.Edges.{edge-sym, edge-cases, eqE-true, eqE-of}
 use Rattle.polygon.proofs.Positions.{next-cases, next-lt, flip-lt, flip-inj, dist-zero, slide-lt, slide-inj}
 

@@ -1,59 +1,31 @@
--- What a move does to the edges.
+-- The edges after an uncrossing: the two that are cut go, the two that are laid come, and every other stays.
 use mathlib.Core.Path.{_≡_, refl, sym, _∙_, ap}
-use mathlib.Core.Bool.{Bool, true, false, not, _&&_, _||_}
+use mathlib.Core.Bool.{false, not, _&&_, _||_}
 use mathlib.Core.List.{List, [], _∷_}
-use mathlib.Core.Logic.{_⊎_, inl, inr, _≢_}
-use Prim.Native.Nat.{ℕ, suc, _+_, _-_, _≤_, _<_}
+use mathlib.Core.Logic.{inl, inr, _≢_}
+use Prim.Native.Nat.{ℕ, suc, _+_, _≤_, _<_}
 use native.Mathlib.Omega.{arith}
 use Rattle.polygon.specs.Change.{uncross, cut, lay, turned}
 use Rattle.index_edge.specs.Edge.{Edge, edge, memberE}
 use Rattle.polygon.specs.Ring.{next, dist, at, flip, reversed, IsRing}
 use Rattle.polygon.specs.Edges.{edgeAt, edges}
-use Rattle.algebra.specs.Cases.{both, le-cases, eq-cases, never, same-test, or-cases, or-right}
+use Rattle.algebra.specs.Cases.{both, le-cases, eq-cases, never}
 use Rattle.polygon.proofs.Positions.{next-cases, next-lt, dist-self, dist-lt, dist-inj, dist-next, dist-suc, dist-zero, flip-lt, flip-in, flip-out, flip-flip}
-use Rattle.polygon.proofs.RingEdges.{moved-edge, moved-edge-back, edges-differ, member-edge, edge-member}
+use Rattle.polygon.proofs.RingEdges.{moved-edge, moved-edge-back, edges-differ, edge-member}
+use Rattle.polygon.proofs.EdgesAfter.{EdgesAfter, edges-after}
 use Rattle.index_edge.proofs.Edges.{member-here, member-there, member-cases, not-member, not-head, not-tail}
 
--- ---- the edges after a move, from its parts
-and-not : (s t : Bool) → s ≡ true → t ≡ false → (s && not t) ≡ true
-and-not s t p q = rw (p, q)
-
-and-not-cases : (s t : Bool) → (s && not t) ≡ true → (s ≡ true) × (t ≡ false)
-and-not-cases true true e = never false e refl
-and-not-cases true false e = (refl, refl)
-and-not-cases false t e = never false e refl
-
-pub record Turns (n : ℕ) (r r' : List ℕ) (cs ls : List Edge) : Type 0 where
-  pub fore : (i : ℕ) → i < n → (memberE (edgeAt n r' i) ls ≡ true) ⊎ ((memberE (edgeAt n r' i) (edges n r) ≡ true) × (memberE (edgeAt n r' i) cs ≡ false))
-  pub laid : (e : Edge) → memberE e ls ≡ true → memberE e (edges n r') ≡ true
-  pub kept : (i : ℕ) → i < n → memberE (edgeAt n r i) cs ≡ false → memberE (edgeAt n r i) (edges n r') ≡ true
-
-pub turns-edges : {n : ℕ} {r r' : List ℕ} {cs ls : List Edge} → Turns n r r' cs ls → (e : Edge) → memberE e (edges n r') ≡ (memberE e (edges n r) && not (memberE e cs)) || memberE e ls
-turns-edges {n} {r} {r'} {cs} {ls} t e = same-test _ _ to from
-  where
-    to : memberE e (edges n r') ≡ true → ((memberE e (edges n r) && not (memberE e cs)) || memberE e ls) ≡ true
-    to m = let (i, l, p) = member-edge n r' e m in
-        both (t .fore i l)
-        (λ h. or-right (memberE e (edges n r) && not (memberE e cs)) (memberE e ls) (rw p at h))
-        (λ h. rw (and-not (memberE e (edges n r)) (memberE e cs) (rw p at (h .0)) (rw p at (h .1))))
-
-    from : ((memberE e (edges n r) && not (memberE e cs)) || memberE e ls) ≡ true → memberE e (edges n r') ≡ true
-    from m =
-        both (or-cases (memberE e (edges n r) && not (memberE e cs)) (memberE e ls) m)
-        (λ h. let (a, b) = and-not-cases (memberE e (edges n r)) (memberE e cs) h in let (i, l, p) = member-edge n r e a in rw p at (t .kept i l (rw (← p) at b)))
-        (λ h. t .laid e h)
-
 -- ---- reversing the places from p on to q
--- inside, the position j where r has the edge that the reversed ring has at i, and the other way round
-pub record Twin (n : ℕ) (r : List ℕ) (p q i : ℕ) : Type 0 where
+-- i and j mirror each other in the stretch: each has in the reversed ring the edge that the other has in r
+record Mirrored (n : ℕ) (r : List ℕ) (p q i : ℕ) : Type 0 where
   pub j : ℕ
   pub lt : j < n
   pub inside : dist n p j < dist n p q
   pub here : edgeAt n (reversed n r p q) i ≡ edgeAt n r j
   pub there : edgeAt n (reversed n r p q) j ≡ edgeAt n r i
 
-pub twin : (n : ℕ) (r : List ℕ) (p q : ℕ) → p < n → q < n → (i : ℕ) → i < n → dist n p i < dist n p q → Twin n r p q i
-twin n r p q lp lq i l h =
+mirror : (n : ℕ) (r : List ℕ) (p q : ℕ) → p < n → q < n → (i : ℕ) → i < n → dist n p i < dist n p q → Mirrored n r p q i
+mirror n r p q lp lq i l h =
     let f = flip n p q in
     let m = dist-lt n p lp q lq in
     let l' = next-lt n i l in
@@ -97,63 +69,63 @@ module _ (n : ℕ) (r : List ℕ) (a b : ℕ) (la : a < n) (lb : b < n) (ab : a 
       let p = next n a in
       let di : suc (D i) < n = both (le-cases (suc (suc (D i))) n) (λ h. h .0) (λ h. absurd (ia (dist-inj n p lp i a l la (omega (arith, dist-a, dist-lt n p lp i l))))) in
       let s : D (next n i) ≡ suc (D i) = dist-suc n p lp i l di in
-      moved-edge n f r i l i (next n i) (flip-out n p b lp lb i h) (flip-out n p b lp lb (next n i) (omega arith))
+      moved-edge n f r i l i (next n i) (flip-out n p b i h) (flip-out n p b (next n i) (omega arith))
 
-  -- an edge that is not cut keeps its points: the position j where r has what r' has at i, and the other way round
-  pub uncross-twin : (i : ℕ) → i < n → i ≢ a → i ≢ b → (j : ℕ) × (j < n) × (j ≢ a) × (j ≢ b) × (edgeAt n r' i ≡ edgeAt n r j) × (edgeAt n r' j ≡ edgeAt n r i)
-  uncross-twin i l ia ib =
+  -- an edge that is not cut is still there: r has at some j what r' has at i, and the other way round
+  uncross-kept : (i : ℕ) → i < n → i ≢ a → i ≢ b → (j : ℕ) × (j < n) × (j ≢ a) × (j ≢ b) × (edgeAt n r' i ≡ edgeAt n r j) × (edgeAt n r' j ≡ edgeAt n r i)
+  uncross-kept i l ia ib =
       both (le-cases (suc (D i)) (D b))
-      (λ h. let t = twin n r (next n a) b lp lb i l (h .0) in let d = t .inside in
+      (λ h. let t = mirror n r (next n a) b lp lb i l (h .0) in let d = t .inside in
       (t .j, t .lt, λ e. (let z = ap D e in omega (arith, dist-a, dist-b)), λ e. (let z = ap D e in omega arith), t .here, t .there))
       (λ h. both (eq-cases (D i) (D b))
       (λ g. absurd (ib (dist-inj n (next n a) lp i b l lb (g .0))))
       (λ g. let same = uncross-outside i l ia (omega arith) in (i, l, ia, ib, same, same)))
 
-  pub uncross-at-a : edgeAt n r' a ≡ edge (at r a) (at r b)
+  uncross-at-a : edgeAt n r' a ≡ edge (at r a) (at r b)
   uncross-at-a =
       let p = next n a in
       let z = dist-self n p lp in
-      moved-edge n f r a la a b (flip-out n p b lp lb a (omega (arith, dist-a, dist-b))) (dist-inj n p lp _ _ (flip-lt n p b lp lb p lp) lb (omega (arith, flip-in n p b lp lb p (omega arith))))
+      moved-edge n f r a la a b (flip-out n p b a (omega (arith, dist-a, dist-b))) (dist-inj n p lp _ _ (flip-lt n p b lp lb p lp) lb (omega (arith, flip-in n p b lp lb p (omega arith))))
 
-  pub uncross-at-b : edgeAt n r' b ≡ edge (at r (next n a)) (at r (next n b))
+  uncross-at-b : edgeAt n r' b ≡ edge (at r (next n a)) (at r (next n b))
   uncross-at-b =
       let p = next n a in
-      moved-edge n f r b lb (next n a) (next n b) (dist-zero n p lp (f b) (flip-lt n p b lp lb b lb) (omega (arith, flip-in n p b lp lb b (omega arith)))) (flip-out n p b lp lb (next n b) (omega (arith, dist-suc n p lp b lb dist-b)))
+      moved-edge n f r b lb (next n a) (next n b) (dist-zero n p lp (f b) (flip-lt n p b lp lb b lb) (omega (arith, flip-in n p b lp lb b (omega arith)))) (flip-out n p b (next n b) (omega (arith, dist-suc n p lp b lb dist-b)))
 
-  abbrev ea : Edge
-  ea = edgeAt n r a
+  abbrev cut1 : Edge
+  cut1 = edgeAt n r a
 
-  abbrev eb : Edge
-  eb = edgeAt n r b
+  abbrev cut2 : Edge
+  cut2 = edgeAt n r b
 
-  abbrev la1 : Edge
-  la1 = edge (at r a) (at r b)
+  abbrev laid1 : Edge
+  laid1 = edge (at r a) (at r b)
 
-  abbrev la2 : Edge
-  la2 = edge (at r (next n a)) (at r (next n b))
+  abbrev laid2 : Edge
+  laid2 = edge (at r (next n a)) (at r (next n b))
 
   module _ (ring : IsRing n r) (three : 3 ≤ n) where
     uncross-uncut : (e : Edge) (j : ℕ) → j < n → j ≢ a → j ≢ b → e ≡ edgeAt n r j → memberE e (cut n (uncross a b) r) ≡ false
     uncross-uncut e j l ja jb p =
-        not-member e ea (eb ∷ []) (λ q. ja (edges-differ n r ring three j a l la (sym p ∙ q))) (not-member e eb [] (λ q. jb (edges-differ n r ring three j b l lb (sym p ∙ q))) refl)
+        not-member e cut1 (cut2 ∷ []) (λ q. ja (edges-differ n r ring three j a l la (sym p ∙ q))) (not-member e cut2 [] (λ q. jb (edges-differ n r ring three j b l lb (sym p ∙ q))) refl)
 
-    pub uncross-turns : Turns n r (turned n (uncross a b) r) (cut n (uncross a b) r) (lay n (uncross a b) r)
-    uncross-turns = record {
+    uncross-after : EdgesAfter n r (turned n (uncross a b) r) (cut n (uncross a b) r) (lay n (uncross a b) r)
+    uncross-after = record {
       fore = λ i l.
           both (eq-cases i a)
-          (λ h. inl (member-here (edgeAt n r' i) la1 (la2 ∷ []) (ap (edgeAt n r') (h .0) ∙ uncross-at-a)))
+          (λ h. inl (member-here (edgeAt n r' i) laid1 (laid2 ∷ []) (ap (edgeAt n r') (h .0) ∙ uncross-at-a)))
           (λ h. both (eq-cases i b)
-          (λ g. inl (member-there (edgeAt n r' i) la1 (la2 ∷ []) (member-here (edgeAt n r' i) la2 [] (ap (edgeAt n r') (g .0) ∙ uncross-at-b))))
-          (λ g. let (j, lj, ja, jb, here, there) = uncross-twin i l (h .0) (g .0) in inr (edge-member n r (edgeAt n r' i) (j, lj, sym here), uncross-uncut (edgeAt n r' i) j lj ja jb here)));
+          (λ g. inl (member-there (edgeAt n r' i) laid1 (laid2 ∷ []) (member-here (edgeAt n r' i) laid2 [] (ap (edgeAt n r') (g .0) ∙ uncross-at-b))))
+          (λ g. let (j, lj, ja, jb, here, there) = uncross-kept i l (h .0) (g .0) in inr (edge-member n r (edgeAt n r' i) (j, lj, sym here), uncross-uncut (edgeAt n r' i) j lj ja jb here)));
       laid = λ e h.
-          both (member-cases e la1 (la2 ∷ []) h)
+          both (member-cases e laid1 (laid2 ∷ []) h)
           (λ p. edge-member n r' e (a, la, uncross-at-a ∙ sym p))
-          (λ g. both (member-cases e la2 [] g) (λ p. edge-member n r' e (b, lb, uncross-at-b ∙ sym p)) (λ z. never false z refl));
+          (λ g. both (member-cases e laid2 [] g) (λ p. edge-member n r' e (b, lb, uncross-at-b ∙ sym p)) (λ z. never false z refl));
       kept = λ i l h.
-          let (j, lj, ja, jb, here, there) = uncross-twin i l (λ p. not-head (edgeAt n r i) ea (eb ∷ []) h (ap (edgeAt n r) p)) (λ p. not-head (edgeAt n r i) eb [] (not-tail (edgeAt n r i) ea (eb ∷ []) h) (ap (edgeAt n r) p)) in
+          let (j, lj, ja, jb, here, there) = uncross-kept i l (λ p. not-head (edgeAt n r i) cut1 (cut2 ∷ []) h (ap (edgeAt n r) p)) (λ p. not-head (edgeAt n r i) cut2 [] (not-tail (edgeAt n r i) cut1 (cut2 ∷ []) h) (ap (edgeAt n r) p)) in
           edge-member n r' (edgeAt n r i) (j, lj, there);
     }
 
     -- e is an edge after the uncrossing exactly when it was one that is not cut, or is laid
     pub uncross-edges : (e : Edge) → memberE e (edges n (turned n (uncross a b) r)) ≡ (memberE e (edges n r) && not (memberE e (cut n (uncross a b) r))) || memberE e (lay n (uncross a b) r)
-    uncross-edges = turns-edges uncross-turns
+    uncross-edges = edges-after uncross-after

@@ -45,11 +45,11 @@ pub record IsRing (n : ℕ) (r : List ℕ) : Type 0 where
 abbrev pub fresh : List ℕ → ℕ → Bool
 fresh r i = allBelow i (λ j. not (eqb (at r j) (at r i)))
 
--- it is a point's, and named for the first time
+-- the number at i is a point's, and named for the first time
 abbrev pub named : ℕ → List ℕ → ℕ → Bool
 named n r i = ltb (at r i) n && fresh r i
 
--- the same as IsRing, as a test
+-- IsRing as a test (check 4)
 abbrev pub eachOnce : ℕ → List ℕ → Bool
 eachOnce n r = eqb (length r) n && allBelow n (named n r)
 
@@ -83,8 +83,7 @@ indexOf n r = map (λ v. placeOf v r 0) (upFrom 0 n)
 abbrev pub swap : List ℕ → ℕ → ℕ → List ℕ
 swap r p q = set (set r p (at r q)) q (at r p)
 
--- A move changes the ring by a map on positions:
--- the ring that has at i what r has at f i
+-- a change as a map on positions: the ring that has at i what r has at f i
 abbrev pub moved : ℕ → (ℕ → ℕ) → List ℕ → List ℕ
 moved n f r = map (λ i. at r (f i)) (upFrom 0 n)
 

@@ -1,8 +1,8 @@
 -- `identity` meets its contract: after i turns the first i entries of ring and index are 0, 1, .., i - 1.
-use Prim.Native.Nat.{_+_, _-_, _≤_, _<_}
+use Prim.Native.Nat.{_-_, _≤_}
 use native.Mathlib.Omega.{arith}
 use mathlib.Core.Path.{_≡_, refl, sym, _∙_}
-use lib.ListN.{length, length-set}
+use lib.ListN.{length}
 use Rattle.polygon.proofs.Index.{Counted, counted-none, counted-more, counted-all}
 use Rattle.polygon.proofs.polygon.identity.Statement.{statement}
 use Rattle.polygon.proofs.polygon.identity.Tie as tie

@@ -1,7 +1,7 @@
 -- `index_part` meets its contract: after each write one point more is found, until none is left out.
 use Prim.Native.Nat.{_-_, _≤_, _<_}
 use native.Mathlib.Omega.{arith}
-use mathlib.Core.Path.{_≡_, sym, _∙_}
+use mathlib.Core.Path.{sym, _∙_}
 use denote.Ref.{now}
 use lib.ListN.{length}
 use Rattle.polygon.specs.Ring.{at, IndexedBut}
