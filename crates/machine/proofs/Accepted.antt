@@ -18,6 +18,7 @@ use Rattle.machine.specs.Answer.{answer, call, inRange, noneAlike, refus
 use Rattle.polygon.specs.Ring.{at, eachOnce, IsRing}
 use Rattle.machine.specs.Board.{AllOnLine, straightLine, Distinct, Board}
 use Rattle.machine.specs.Demand3.{Demand3, Picks}
+use Rattle.polygon.proofs.EachOnce.{each-ring, ring-each}
 use Rattle.machine.proofs.Demand3Holds.{demand3}
 use Rattle.machine.proofs.Corners.{straight-line, line-straight, has-corner}
 use Rattle.algebra.specs.Ranges.{allBelow, all-true, true-all, by-order}
@@ -40,27 +41,6 @@ module _ (n : ℕ) (pt : ℕ → Point) where
       true-all n _ (λ i l. true-all i _ (λ j k. both (true-or-false (eqP (pt j) (pt i))) (λ t. absurd (let z = di j i (omega arith) l (eqP-true (pt j) (pt i) t) in omega arith)) (λ t. rw t)))
 
   module _ (short : Bool) (r : List ℕ) where
-    entry : ℕ → Bool
-    entry i = ltb (at r i) n && allBelow i (λ j. not (eqb (at r j) (at r i)))
-
-    each-ring : eachOnce n r ≡ true → IsRing n r
-    unfolding entry
-    each-ring h =
-        let all = all-true n entry (and-right (eqb (length r) n) _ h) in
-        record {
-          len = eqb-true (length r) n (and-left (eqb (length r) n) _ h);
-          below = λ i l. ltb-true (at r i) n (and-left (ltb (at r i) n) _ (all i l));
-          apart = by-order n (λ i j. at r i ≡ at r j) (λ i j e. sym e)
-              (λ i j ji l e. never (not (eqb (at r j) (at r i))) (all-true i (λ j. not (eqb (at r j) (at r i))) (and-right (ltb (at r i) n) _ (all i l)) j ji) (rw (eq-eqb (at r j) (at r i) e)));
-        }
-
-    ring-each : IsRing n r → eachOnce n r ≡ true
-    unfolding entry
-    ring-each ring =
-        rw (eq-eqb (length r) n (ring .len))
-        (true-all n entry (λ i l. rw (lt-ltb (at r i) n (ring .below i l))
-        (true-all i _ (λ j k. rw (ne-eqb (at r j) (at r i) (λ e. (let z = ring .apart j i (omega arith) l e in omega arith)))))))
-
     peel : (b : Bool) (k x : ℕ) → 0 < k → cond b k x ≡ 0 → (b ≡ false) × (x ≡ 0)
     peel true k x h e = absurd (omega arith)
     peel false k x h e = (refl, e)
@@ -77,7 +57,7 @@ module _ (n : ℕ) (pt : ℕ → Point) where
             let (h5, k5) = peel (not (noneAlike n pt)) 5 _ (omega arith) k4 in
             let (h6, k6) = peel (ltb n 3) 6 _ (omega arith) k5 in
             let (h7, k7) = peel (allBelow n (straightLine n pt r)) 7 0 (omega arith) k6 in
-            let ring = each-ring (not-false _ h4) in
+            let ring = each-ring n r (not-false _ h4) in
             let di = alike-distinct (not-false _ h5) in
             let three = ltb-false n 3 h6 in
             record {
@@ -103,7 +83,7 @@ module _ (n : ℕ) (pt : ℕ → Point) where
               le-ltb 256 n (a .few),
               a .long,
               true-all n (λ i. nearP (pt i)) (a .range),
-              ring-each (a .ring),
+              ring-each n r (a .ring),
               distinct-alike (a .board .distinct),
               le-ltb n 3 three,
               corner,

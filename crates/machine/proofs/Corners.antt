@@ -1,52 +1,19 @@
 -- A corner: every vertex of a ring of distinct points is straight only if all points lie on one line. So on a board every ring has one.
 use mathlib.Core.Path.{_≡_, sym, subst}
-use mathlib.Core.Bool.{cond}
 use mathlib.Core.List.{List}
 use mathlib.Core.Logic.{_⊎_, inl, inr, _≢_}
 use Prim.Native.Nat.{ℕ, zero, suc, _≤_, _<_}
 use native.Mathlib.Omega.{arith}
 use lib.IntN.{pos}
-use lib.Dec.{eqb}
 use Rattle.geometry.specs.Plane.{Point, turn}
 use Rattle.geometry.proofs.Points.{zero-is, turn-first, turn-second, three}
 use Rattle.polygon.specs.Ring.{next, prev, at, IsRing}
 use Rattle.machine.specs.Board.{ptAt, straightLine, Distinct, AllOnLine}
 use Rattle.algebra.specs.Cases.{both, eq-cases, true-or-false}
+use Rattle.polygon.proofs.EachOnce.{ring-has}
 use Rattle.polygon.proofs.Positions.{next-cases, prev-cases, next-lt, prev-lt}
 use Rattle.geometry.proofs.Height.{Apart}
 use Rattle.machine.proofs.Runs.{Straight, Corner, line-on}
-
--- ---- n different numbers below n are all of them
-abbrev skip : ℕ → (ℕ → ℕ) → ℕ → ℕ
-skip n f i = cond (eqb (f i) n) (f n) (f i)
-
-module _ (n : ℕ) (f : ℕ → ℕ) (low : (i : ℕ) → i < suc n → f i < suc n) (inj : (i j : ℕ) → i < suc n → j < suc n → f i ≡ f j → i ≡ j) where
-  out : (i : ℕ) → ((f i ≡ n) × (skip n f i ≡ f n)) ⊎ ((f i ≢ n) × (skip n f i ≡ f i))
-  out i = both (eq-cases (f i) n) (λ h. inl (h .0, rw (h .1))) (λ h. inr (h .0, rw (h .1)))
-
-  fresh : (i : ℕ) → i < n → f i ≢ f n
-  fresh i l e = (let z = inj i n (omega arith) (omega arith) e in omega arith)
-
-  skip-low : (i : ℕ) → i < n → skip n f i < n
-  skip-low i l = both (out i) (λ h. let a = low n (omega arith) in let b = fresh i l in omega arith) (λ h. let a = low i (omega arith) in omega arith)
-
-  skip-inj : (i j : ℕ) → i < n → j < n → skip n f i ≡ skip n f j → i ≡ j
-  skip-inj i j li lj e =
-      both (out i)
-      (λ h. both (out j) (λ k. inj i j (omega arith) (omega arith) (omega arith)) (λ k. absurd (fresh j lj (omega arith))))
-      (λ h. both (out j) (λ k. absurd (fresh i li (omega arith))) (λ k. inj i j (omega arith) (omega arith) (omega arith)))
-
-  onto-step : ((x : ℕ) → x < n → (i : ℕ) × (i < n) × (skip n f i ≡ x)) → (v : ℕ) → v < suc n → (i : ℕ) × (i < suc n) × (f i ≡ v)
-  onto-step found v l =
-      both (eq-cases v (f n))
-      (λ h. (n, omega arith, sym (h .0)))
-      (λ h. both (eq-cases v n)
-      (λ k. (let a = low n (omega arith) in let b = h .0 in let (i, li, e) = found (f n) (omega arith) in both (out i) (λ o. (i, omega arith, omega arith)) (λ o. absurd (fresh i li (omega arith)))))
-      (λ k. (let (i, li, e) = found v (omega arith) in both (out i) (λ o. absurd (h .0 (omega arith))) (λ o. (i, omega arith, omega arith)))))
-
-pub onto : (n : ℕ) (f : ℕ → ℕ) → ((i : ℕ) → i < n → f i < n) → ((i j : ℕ) → i < n → j < n → f i ≡ f j → i ≡ j) → (v : ℕ) → v < n → (i : ℕ) × (i < n) × (f i ≡ v)
-onto zero f low inj v l = absurd (omega arith)
-onto (suc n) f low inj v l = onto-step n f low inj (onto n (skip n f) (skip-low n f low inj) (skip-inj n f low inj)) v l
 
 -- ---- distinct points
 pub ring-apart : (n : ℕ) (pt : ℕ → Point) (r : List ℕ) → IsRing n r → Distinct n pt → Apart n (ptAt pt r)
@@ -74,9 +41,9 @@ module _ (n : ℕ) (pt : ℕ → Point) (three≤ : 3 ≤ n) (di : Distinct n pt
   -- every vertex straight: all points on one line
   pub straight-line : ((i : ℕ) → i < n → Straight n pt r i) → AllOnLine n pt
   straight-line st x y z lx ly lz =
-      let (i, li, ei) = onto n (at r) (ring .below) (ring .apart) x lx in
-      let (j, lj, ej) = onto n (at r) (ring .below) (ring .apart) y ly in
-      let (k, lk, ek) = onto n (at r) (ring .below) (ring .apart) z lz in
+      let (i, li, ei) = ring-has ring x lx in
+      let (j, lj, ej) = ring-has ring y ly in
+      let (k, lk, ek) = ring-has ring z lz in
       rw (sym ei, sym ej, sym ek) (three (P 0) (P 1) (P i) (P j) (P k) first-two (on-first st i li) (on-first st j lj) (on-first st k lk))
 
   -- and the other way round

@@ -21,7 +21,8 @@ use Rattle.algebra.specs.Counting.{one}
 use Rattle.algebra.specs.Cases.{both, true-or-false, and-left, and-right}
 use Rattle.index_edge.proofs.Edges.{eqE-false, ltE-other}
 use Rattle.polygon.proofs.RingEdges.{member-edge, edge-member}
-use Rattle.machine.proofs.Corners.{onto, ring-apart}
+use Rattle.polygon.proofs.EachOnce.{ring-has}
+use Rattle.machine.proofs.Corners.{ring-apart}
 use Rattle.geometry.proofs.Points.{is-below}
 use Rattle.machine.proofs.Runs.{Corner}
 use Rattle.machine.proofs.EdgesMeet.{meetE-comm}
@@ -95,7 +96,7 @@ module _ (n : ℕ) (pt : ℕ → Point) (board : Board n pt) where
           record {
             finished = finish-is n pt r some ring ap-art corner;
             ring = l;
-            visits = λ v lv. (let (i, li, e) = onto n (at (finish n pt r)) (l .below) (l .apart) v lv in (i, li, e, λ j lj f. l .apart j i lj li (f ∙ sym e)));
+            visits = λ v lv. (let (i, li, e) = ring-has l v lv in (i, li, e, λ j lj f. l .apart j i lj li (f ∙ sym e)));
             turns = finish-turn n pt r some ring ap-art corner;
             none = none-counted _ (λ a b. fresh-same n pt r (finish n pt r) (once-edges n r ring three) (once-edges n (finish n pt r) l three) (finish-edges n pt r some ring ap-art) a b ∙ ap (counted a b) none);
           }

@@ -13,15 +13,15 @@ use Rattle.algebra.specs.Identities.{ident, pair, _:=_}
 use Rattle.geometry.proofs.Turns.{turnE}
 use Rattle.geometry.specs.Plane.{Point, turn, ltP}
 use Rattle.geometry.proofs.Points.{is-below, below-is, ltZ-cases, ltP-trans, ltP-not, ltP-total, zero-is}
-use Rattle.index_edge.specs.Edge.{Edge, edge, memberE}
-use Rattle.polygon.specs.Ring.{next, prev, dist, at, flip, reversed, IsRing}
-use Rattle.polygon.specs.Edges.{edgeAt, edges}
+use Rattle.index_edge.specs.Edge.{Edge, memberE}
+use Rattle.polygon.specs.Ring.{next, prev, turnedRound, IsRing}
+use Rattle.polygon.specs.Edges.{edges}
 use Rattle.machine.specs.Board.{ptAt, turnAt, straightLine}
 use Rattle.machine.specs.Answer.{leastTo, finish}
 use Rattle.machine.specs.Demand3.{Least, Finished}
 use Rattle.algebra.specs.Cases.{both, eq-cases, true-or-false, never, same-test}
-use Rattle.polygon.proofs.Positions.{next-cases, prev-cases, dist-cases, next-lt, prev-lt, next-prev, prev-next, flip-in, flip-lt, flip-flip}
-use Rattle.polygon.proofs.RingEdges.{moved-at, moved-edge-back, reversed-ring, member-edge, edge-member}
+use Rattle.polygon.proofs.Positions.{next-lt, prev-lt}
+use Rattle.polygon.proofs.WholeReversal.{whole, whole-lt, whole-whole, whole-next, whole-prev, back-at, back-ring, back-edges}
 use Rattle.geometry.proofs.Height.{Apart}
 use Rattle.machine.proofs.Runs.{Corner}
 
@@ -59,81 +59,32 @@ module _ (n : ℕ) (pt : ℕ → Point) (r : List ℕ) (apart : Apart n (ptAt pt
       record { within = omega arith; below = λ i l ne. below-is _ _ (leastTo-below (n - 1) (omega arith) i (omega arith) ne) }
 
 -- ---- the whole loop reversed
-module _ (n : ℕ) (some : 0 < n) where
-  abbrev pub whole : ℕ → ℕ
-  whole = flip n 0 (n - 1)
+module _ (n : ℕ) (some : 0 < n) (r : List ℕ) (pt : ℕ → Point) where
+  abbrev back : List ℕ
+  back = turnedRound n r
 
-  dist-0 : (i : ℕ) → dist n 0 i ≡ i
-  dist-0 i = both (dist-cases n 0 i some) (λ h. omega arith) (λ h. absurd (omega arith))
+  abbrev mirrored : ℕ → ℕ
+  mirrored = whole n some
 
-  pub whole-lt : (i : ℕ) → i < n → whole i < n
-  whole-lt i l = flip-lt n 0 (n - 1) some (omega arith) i l
+  back-point : (i : ℕ) → i < n → ptAt pt back i ≡ ptAt pt r (mirrored i)
+  back-point i l = ap pt (back-at n some r i l)
 
-  pub whole-whole : (i : ℕ) → i < n → whole (whole i) ≡ i
-  whole-whole i l = flip-flip n 0 (n - 1) some (omega arith) i l
+  -- every turn the other way
+  pub back-turn : (i : ℕ) → i < n → turnAt n pt back i ≡ negℤ (turnAt n pt r (mirrored i))
+  back-turn i l =
+      rw (back-point i l, back-point (prev n i) (prev-lt n i l), back-point (next n i) (next-lt n i l), whole-next n some i l, whole-prev n some i l)
+      (other-way (ptAt pt r (next n (mirrored i))) (ptAt pt r (mirrored i)) (ptAt pt r (prev n (mirrored i))))
+    where
+      other-way : (a b c : Point) → turn a b c ≡ negℤ (turn c b a)
+      other-way = ident (pair ∷ pair ∷ pair ∷ []) (λ a b c. turnE a b c := neg (turnE c b a)) tt
 
-  whole-sum : (i : ℕ) → i < n → whole i + i ≡ n - 1
-  whole-sum i l =
-      omega (arith, dist-0 i, dist-0 (n - 1), dist-0 (whole i), flip-in n 0 (n - 1) some (omega arith) i (omega (arith, dist-0 i, dist-0 (n - 1))))
-
-  pub whole-next : (i : ℕ) → i < n → whole (next n i) ≡ prev n (whole i)
-  whole-next i l =
-      let a = whole-sum i l in
-      let b = whole-sum (next n i) (next-lt n i l) in
-      both (next-cases n i)
-      (λ h. both (prev-cases n (whole i) (whole-lt i l)) (λ g. omega arith) (λ g. omega arith))
-      (λ h. both (prev-cases n (whole i) (whole-lt i l)) (λ g. omega arith) (λ g. omega arith))
-
-  pub whole-prev : (i : ℕ) → i < n → whole (prev n i) ≡ next n (whole i)
-  whole-prev i l =
-      let a = whole-sum i l in
-      let b = whole-sum (prev n i) (prev-lt n i l) in
-      both (prev-cases n i l)
-      (λ h. both (next-cases n (whole i)) (λ g. omega arith) (λ g. omega arith))
-      (λ h. both (next-cases n (whole i)) (λ g. omega arith) (λ g. omega arith))
-
-  module _ (r : List ℕ) where
-    abbrev back : List ℕ
-    back = reversed n r 0 (n - 1)
-
-    back-at : (i : ℕ) → i < n → at back i ≡ at r (whole i)
-    back-at i l = moved-at n whole r i l
-
-    back-edge : (i : ℕ) → i < n → edgeAt n back i ≡ edgeAt n r (prev n (whole i))
-    back-edge i l =
-        moved-edge-back n whole r i l (prev n (whole i)) (whole i) refl (whole-next i l)
-        ∙ ap (λ y. edge (at r (prev n (whole i))) (at r y)) (sym (next-prev n (whole i) (whole-lt i l)))
-
-    -- it has the same edges
-    pub back-edges : (e : Edge) → memberE e (edges n back) ≡ memberE e (edges n r)
-    back-edges e =
-        same-test (memberE e (edges n back)) (memberE e (edges n r))
-        (λ t. let (i, l, p) = member-edge n back e t in edge-member n r e (prev n (whole i), prev-lt n (whole i) (whole-lt i l), sym (back-edge i l) ∙ p))
-        (λ t. let (j, l, p) = member-edge n r e t in
-        let l' = next-lt n j l in
-        edge-member n back e
-        (whole (next n j), whole-lt (next n j) l', back-edge (whole (next n j)) (whole-lt (next n j) l') ∙ ap (λ i. edgeAt n r (prev n i)) (whole-whole (next n j) l') ∙ ap (edgeAt n r) (prev-next n j l) ∙ p))
-
-    module _ (pt : ℕ → Point) where
-      back-point : (i : ℕ) → i < n → ptAt pt back i ≡ ptAt pt r (whole i)
-      back-point i l = ap pt (back-at i l)
-
-      -- and every turn the other way
-      pub back-turn : (i : ℕ) → i < n → turnAt n pt back i ≡ negℤ (turnAt n pt r (whole i))
-      back-turn i l =
-          rw (back-point i l, back-point (prev n i) (prev-lt n i l), back-point (next n i) (next-lt n i l), whole-next i l, whole-prev i l)
-          (other-way (ptAt pt r (next n (whole i))) (ptAt pt r (whole i)) (ptAt pt r (prev n (whole i))))
-        where
-          other-way : (a b c : Point) → turn a b c ≡ negℤ (turn c b a)
-          other-way = ident (pair ∷ pair ∷ pair ∷ []) (λ a b c. turnE a b c := neg (turnE c b a)) tt
-
-      pub back-least : (m : ℕ) → Least n pt r m → Least n pt back (whole m)
-      back-least m le = record {
-        within = whole-lt m (le .within);
-        below = λ i l ne.
-            rw (back-point i l, back-point (whole m) (whole-lt m (le .within)), whole-whole m (le .within))
-            (le .below (whole i) (whole-lt i l) (λ e. ne (sym (whole-whole i l) ∙ ap whole e)));
-      }
+  pub back-least : (m : ℕ) → Least n pt r m → Least n pt back (mirrored m)
+  back-least m le = record {
+    within = whole-lt n some m (le .within);
+    below = λ i l ne.
+        rw (back-point i l, back-point (mirrored m) (whole-lt n some m (le .within)), whole-whole n some m (le .within))
+        (le .below (mirrored i) (whole-lt n some i l) (λ e. ne (sym (whole-whole n some i l) ∙ ap mirrored e)));
+  }
 
 -- ---- the loop that is delivered for a ring
 module _ (n : ℕ) (pt : ℕ → Point) (r : List ℕ) (some : 0 < n) (ring : IsRing n r) (apart : Apart n (ptAt pt r)) where
@@ -141,7 +92,7 @@ module _ (n : ℕ) (pt : ℕ → Point) (r : List ℕ) (some : 0 < n) (ring : Is
   m = leastTo n pt r (n - 1)
 
   pub finish-ring : IsRing n (finish n pt r)
-  finish-ring = both (true-or-false (ltZ (turnAt n pt r m) (pos 0))) (λ t. rw t (reversed-ring n r 0 (n - 1) some (omega arith) ring)) (λ t. rw t ring)
+  finish-ring = both (true-or-false (ltZ (turnAt n pt r m) (pos 0))) (λ t. rw t (back-ring n some r ring)) (λ t. rw t ring)
 
   pub finish-edges : (e : Edge) → memberE e (edges n (finish n pt r)) ≡ memberE e (edges n r)
   finish-edges e = both (true-or-false (ltZ (turnAt n pt r m) (pos 0))) (λ t. rw t (back-edges n some r e)) (λ t. rw t)
@@ -166,7 +117,7 @@ module _ (n : ℕ) (pt : ℕ → Point) (r : List ℕ) (some : 0 < n) (ring : Is
         let le = least-found n pt r apart some in
         both (ltZ-cases (turnAt n pt r m) (pos 0))
         (λ h. let lw = whole-lt n some m (le .within) in
-        let e : turnAt n pt (reversed n r 0 (n - 1)) (whole n some m) ≡ negℤ (turnAt n pt r m) = back-turn n some r pt (whole n some m) lw ∙ ap (λ j. negℤ (turnAt n pt r j)) (whole-whole n some m (le .within)) in
+        let e : turnAt n pt (turnedRound n r) (whole n some m) ≡ negℤ (turnAt n pt r m) = back-turn n some r pt (whole n some m) lw ∙ ap (λ j. negℤ (turnAt n pt r j)) (whole-whole n some m (le .within)) in
         rw (h .1) (whole n some m, back-least n some r pt m le, rw e (flipped (turnAt n pt r m) (h .0))))
         (λ h. rw (h .1) (m, le, positive (turnAt n pt r m) (h .0) nz))
       where
