@@ -14,3 +14,4 @@ pub mod PastTheEnd
 pub mod Pushing
 pub mod Removing
 pub mod Starting
+pub mod Picking

@@ -288,3 +288,17 @@ module _ (n : ℕ) (p : Pool) (s : Store) (h : Holds n p s) (a b : Edge) where
 
   pub beyond-pushed : MayPush n a b s → Beyond (n * (n - 1)) (poolPush n (lesser a b) (greater a b) p) p
   beyond-pushed m = beyond-push n (lesser a b) (greater a b) p (may-push m)
+
+  -- the same of two edges and a pool that the code's steps leave
+  module _ {e f : Edge} (ee : e ≡ lesser a b) (ef : f ≡ greater a b) (m : MayPush n a b s) where
+    pub push-allowed : PushOk n e f p
+    push-allowed = rw (ee, ef) (may-push m)
+
+    pub push-holds : {q : Pool} {ok : Bool} → q ≡ poolPush n e f p → ok ≡ true → Holds n q (cond ok (plain.push a b s) s)
+    push-holds eq t = rw (t, eq, ee, ef) (holds-push m)
+
+    pub push-beyond : {q : Pool} → q ≡ poolPush n e f p → Beyond (n * (n - 1)) q p
+    push-beyond eq = rw (eq, ee, ef) (beyond-pushed m)
+
+  pub no-push-holds : {ok : Bool} → ok ≡ false → Holds n p (cond ok (plain.push a b s) s)
+  no-push-holds t = rw t h

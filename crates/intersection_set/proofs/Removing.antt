@@ -303,3 +303,11 @@ module _ (n : ℕ) (e : Edge) (pe : Proper n e) where
 
     pub beyond-removeAll : Beyond (n * (n - 1)) (poolRemoveAll n e (p .counts .live) p) p
     beyond-removeAll = subst⁻¹ (λ (f : ℕ). Beyond (n * (n - 1)) (poolRemoveAll n e f p) p) (h .stored .live) (drain (length (s .dense)) p s h (omega arith) .2)
+
+    -- the same of the pool that the code leaves
+    module _ {q : Pool} (eq : q ≡ poolRemoveAll n e (p .counts .live) p) where
+      pub removed-holds : Holds n q (plain.removeAll e s)
+      removed-holds = rw eq holds-removeAll
+
+      pub removed-beyond : Beyond (n * (n - 1)) q p
+      removed-beyond = rw eq beyond-removeAll

@@ -186,6 +186,55 @@ fn push(
     t.counts
 }
 
+// Records that a and b meet, where they do.
+pub fn push_if(
+    ok: bool,
+    n: usize,
+    a: IndexEdge,
+    b: IndexEdge,
+    c: Counts,
+    heads: &mut [u16],
+    min0: &mut [u16],
+    max0: &mut [u16],
+    next0: &mut [u16],
+    prev0: &mut [u16],
+    min1: &mut [u16],
+    max1: &mut [u16],
+    next1: &mut [u16],
+    prev1: &mut [u16],
+    dense: &mut [u16],
+    reverse: &mut [u16],
+    free: &[u16],
+) -> Counts
+    requires { ⌜ (ok ≡ true → ((s : Store) × Holds n (poolOf (now heads) (now min0) (now max0) (now next0) (now prev0) (now min1) (now max1) (now next1) (now prev1) (now dense) (now reverse) (now free) c) s × MayPush n (edgeOf a) (edgeOf b) s)) ⌝ }
+    ensures { λ r. ⌜ ((s : Store) → Holds n (poolOf (now (heads .entry)) (now (min0 .entry)) (now (max0 .entry)) (now (next0 .entry)) (now (prev0 .entry)) (now (min1 .entry)) (now (max1 .entry)) (now (next1 .entry)) (now (prev1 .entry)) (now (dense .entry)) (now (reverse .entry)) (now (free .entry)) c) s → (ok ≡ true → MayPush n (edgeOf a) (edgeOf b) s)
+        → Holds n (poolOf (now (heads .exit)) (now (min0 .exit)) (now (max0 .exit)) (now (next0 .exit)) (now (prev0 .exit)) (now (min1 .exit)) (now (max1 .exit)) (now (next1 .exit)) (now (prev1 .exit)) (now (dense .exit)) (now (reverse .exit)) (now (free .entry)) r) (cond ok (pushed (edgeOf a) (edgeOf b) s) s))
+        × Beyond (n * (n - 1)) (poolOf (now (heads .exit)) (now (min0 .exit)) (now (max0 .exit)) (now (next0 .exit)) (now (prev0 .exit)) (now (min1 .exit)) (now (max1 .exit)) (now (next1 .exit)) (now (prev1 .exit)) (now (dense .exit)) (now (reverse .exit)) (now (free .entry)) r) (poolOf (now (heads .entry)) (now (min0 .entry)) (now (max0 .entry)) (now (next0 .entry)) (now (prev0 .entry)) (now (min1 .entry)) (now (max1 .entry)) (now (next1 .entry)) (now (prev1 .entry)) (now (dense .entry)) (now (reverse .entry)) (now (free .entry)) c) ⌝ }
+{
+    if ok {
+        let isect = IndexIntersection::new(a, b);
+        push(
+            n,
+            isect,
+            c,
+            heads,
+            min0,
+            max0,
+            next0,
+            prev0,
+            min1,
+            max1,
+            next1,
+            prev1,
+            dense,
+            reverse,
+            free,
+        )
+    } else {
+        c
+    }
+}
+
 // An edge's head moves on to next, where the record that goes was the newest.
 fn set_head(n: usize, e: IndexEdge, next: SparseIndex, prev: SparseIndex, heads: &mut [u16])
     requires { ⌜ HeadOk n (edgeOf e) (now heads) ⌝ }
@@ -252,6 +301,78 @@ fn remove(
     unlink(n, e0, n0, p0, min0, max0, heads, next0, prev0, next1, prev1);
     unlink(n, e1, n1, p1, min0, max0, heads, next0, prev0, next1, prev1);
     release(s, c, dense, reverse, free)
+}
+
+// Removes every record of an edge, newest first.
+pub fn remove_all(
+    n: usize,
+    e: IndexEdge,
+    c: Counts,
+    heads: &mut [u16],
+    min0: &[u16],
+    max0: &[u16],
+    next0: &mut [u16],
+    prev0: &mut [u16],
+    min1: &[u16],
+    max1: &[u16],
+    next1: &mut [u16],
+    prev1: &mut [u16],
+    dense: &mut [u16],
+    reverse: &mut [u16],
+    free: &mut [u16],
+) -> Counts
+    requires { ⌜ Proper n (edgeOf e) × ((s : Store) × Holds n (poolOf (now heads) (now min0) (now max0) (now next0) (now prev0) (now min1) (now max1) (now next1) (now prev1) (now dense) (now reverse) (now free) c) s) ⌝ }
+    ensures { λ r. ⌜ ((s : Store) → Holds n (poolOf (now (heads .entry)) (now (min0 .entry)) (now (max0 .entry)) (now (next0 .entry)) (now (prev0 .entry)) (now (min1 .entry)) (now (max1 .entry)) (now (next1 .entry)) (now (prev1 .entry)) (now (dense .entry)) (now (reverse .entry)) (now (free .entry)) c) s
+        → Holds n (poolOf (now (heads .exit)) (now (min0 .entry)) (now (max0 .entry)) (now (next0 .exit)) (now (prev0 .exit)) (now (min1 .entry)) (now (max1 .entry)) (now (next1 .exit)) (now (prev1 .exit)) (now (dense .exit)) (now (reverse .exit)) (now (free .exit)) r) (allRemoved (edgeOf e) s))
+        × Beyond (n * (n - 1)) (poolOf (now (heads .exit)) (now (min0 .entry)) (now (max0 .entry)) (now (next0 .exit)) (now (prev0 .exit)) (now (min1 .entry)) (now (max1 .entry)) (now (next1 .exit)) (now (prev1 .exit)) (now (dense .exit)) (now (reverse .exit)) (now (free .exit)) r) (poolOf (now (heads .entry)) (now (min0 .entry)) (now (max0 .entry)) (now (next0 .entry)) (now (prev0 .entry)) (now (min1 .entry)) (now (max1 .entry)) (now (next1 .entry)) (now (prev1 .entry)) (now (dense .entry)) (now (reverse .entry)) (now (free .entry)) c) ⌝ }
+{
+    let mut k = c;
+    let mut newest = by_edge(n, e, heads);
+    while !newest.is_none() {
+        k = remove(
+            n,
+            newest,
+            k,
+            heads,
+            min0,
+            max0,
+            next0,
+            prev0,
+            min1,
+            max1,
+            next1,
+            prev1,
+            dense,
+            reverse,
+            free,
+        );
+        newest = by_edge(n, e, heads);
+    }
+    k
+}
+
+// The edges of a record: the one that a pick takes from the dense order.
+pub fn random(
+    pick: u32,
+    c: Counts,
+    min0: &[u16],
+    max0: &[u16],
+    min1: &[u16],
+    max1: &[u16],
+    dense: &[u16],
+) -> IndexIntersection
+    requires { ⌜ (0 < c .live) × ((n : ℕ) × (p : Pool) × (s : Store) × Holds n p s × (p .edges ≡ edges (now min0) (now max0) (now min1) (now max1)) × (p .order .dense ≡ now dense) × (p .counts ≡ c)) ⌝ }
+    ensures { λ r. ⌜ ((n : ℕ) (p : Pool) (s : Store) → Holds n p s → p .edges ≡ edges (now (min0 .entry)) (now (max0 .entry)) (now (min1 .entry)) (now (max1 .entry)) → p .order .dense ≡ now (dense .entry) → p .counts ≡ c
+        → (edgeOf (r .min) ≡ getD (s .dense) (chosen pick s) noRec .e0) × (edgeOf (r .max) ≡ getD (s .dense) (chosen pick s) noRec .e1)) ⌝ }
+{
+    let live = c.live;
+    let at = (pick as usize) % live;
+    let s = SparseIndex(dense[at]);
+    let i = s.0 as usize;
+    IndexIntersection {
+        min: edge_at(min0, max0, i),
+        max: edge_at(min1, max1, i),
+    }
 }
 
 // No records: every head is none.
