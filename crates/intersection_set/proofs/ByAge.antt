@@ -9,18 +9,11 @@ use lib.Dec.{eqb, leb, ltb}
 use Rattle.algebra.specs.Counting.{one, countP, one-le, count-le}
 use Rattle.index_edge.specs.Edge.{Edge}
 use Rattle.intersection_set.specs.Store.{Rec, Store, names}
+pub use Rattle.intersection_set.specs.Lists.{insert, listOf}
 use Rattle.algebra.specs.Cases.{both, true-or-false, and-right}
 use Rattle.intersection_set.proofs.Slots.{Numbered}
 use Rattle.intersection_set.proofs.Linked.{Linked}
 use Rattle.intersection_set.proofs.Chains.{Links, Chain, Falling, slotOf, eqR, eqR-refl, eqR-true}
-
-abbrev pub insert : Rec → List Rec → List Rec
-insert r [] = r ∷ []
-insert r (y ∷ l) = cond (ltb (y .age) (r .age)) (r ∷ y ∷ l) (y ∷ insert r l)
-
-abbrev pub listOf : Edge → List Rec → List Rec
-listOf e [] = []
-listOf e (r ∷ d) = cond (names e r) (insert r (listOf e d)) (listOf e d)
 
 insert-count : (p : Rec → Bool) (r : Rec) (l : List Rec) → countP p (insert r l) ≡ one (p r) + countP p l
 insert-count p r [] = refl

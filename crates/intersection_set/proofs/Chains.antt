@@ -11,14 +11,12 @@ use lib.ListN.{length, getD}
 use Rattle.algebra.specs.Counting.{one, countP, one-le, count-append, count-snoc, count-same, count-le, count-at, count-split-at, count-zero, count-map}
 use Rattle.index_edge.specs.Edge.{Edge, eqE, ltE}
 use Rattle.intersection_set.specs.Store.{Rec, Store, Found, nothing, at-place, noRec, push, recFor, slotFor, swapRemove, newestFrom, removeFound, names, grown}
+pub use Rattle.intersection_set.specs.Lists.{slotOf}
 use Rattle.algebra.specs.Cases.{and-left, and-right, both, true-or-false}
 use Rattle.index_edge.proofs.Edges.{eqE-true, eqE-refl, eqE-sym}
 use Rattle.intersection_set.proofs.Records.{count-swap, NewestAt, Newest, newest-is, and-none}
 use Rattle.intersection_set.proofs.Slots.{Numbered, numbered-kept, age-below}
 use Rattle.intersection_set.proofs.Linked.{Absent, OnceN, Linked, linked-agree, linked-front, linked-unlink}
-
-abbrev pub slotOf : Rec → ℕ
-slotOf r = r .slot
 
 -- each age is below those before it
 abbrev pub Falling : List Rec → Type 0

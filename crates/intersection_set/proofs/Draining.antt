@@ -12,6 +12,7 @@ use lib.Seq.{getD-set-same, getD-set-other, getD-take, getD-append-seam}
 use Rattle.algebra.specs.Counting.{count-le, count-length, count-at, length-snoc}
 use Rattle.index_edge.specs.Edge.{Edge}
 use Rattle.intersection_set.specs.Store.{Rec, Store, Found, nothing, at-place, noRec, swapRemove, newestFrom, removeFound, removeAllFuel, removeAll, names, grown}
+pub use Rattle.intersection_set.specs.Holds.{Reverse}
 use Rattle.algebra.specs.Cases.{both, true-or-false}
 use Rattle.intersection_set.proofs.Records.{Newest, newest-is, fuel-named}
 use Rattle.intersection_set.proofs.Slots.{Numbered, swapRemove-length, slots-differ, slot-below}
@@ -53,9 +54,6 @@ removal-measure k e s h =
         )
 
 -- ---- the reverse of the dense order: the place of each live slot
-abbrev pub Reverse : List Rec → List ℕ → Type 0
-Reverse d v = (j : ℕ) → j < length d → getD v (getD d j noRec .slot) 0 ≡ j
-
 pub reverse-push : (d : List Rec) (r : Rec) (v : List ℕ) → r .slot < length v → ((j : ℕ) → j < length d → getD d j noRec .slot ≢ r .slot) → Reverse d v → Reverse (d ++ (r ∷ [])) (set v (r .slot) (length d))
 reverse-push d r v room new rev j h =
     both (true-or-false (eqb j (length d)))

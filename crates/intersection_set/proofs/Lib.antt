@@ -4,3 +4,14 @@ pub mod Linked
 pub mod Chains
 pub mod ByAge
 pub mod Draining
+pub mod Filling
+pub mod Lengths
+pub mod ReadOff
+pub mod Alike
+pub mod Views
+pub mod Holding
+pub mod PastTheEnd
+pub mod Pushing
+pub mod Removing
+pub mod Starting
+pub mod Picking

@@ -11,6 +11,7 @@ use Rattle.algebra.specs.Counting.{one, countP, one-le, count-snoc, count-lengt
 use Rattle.index_edge.specs.Edge.{Edge}
 use Rattle.intersection_set.specs.Store.{Rec, Store, Found, nothing, at-place, noRec, empty, grown, push, recFor, slotFor, rest, swapRemove, newestFrom, removeFound, removeAllFuel, removeAll, removes}
 use Rattle.algebra.specs.Cases.{both, true-or-false}
+pub use Rattle.intersection_set.specs.Numbered.{Ages, SlotsOf, Numbered}
 use Rattle.intersection_set.proofs.Records.{count-swap, Newest, newest-is}
 
 -- ---- the principle
@@ -41,18 +42,7 @@ module _ (Q : Store → Type 0) (kept : Kept Q) where
   removes-kept [] s q = q
   removes-kept (e ∷ l) s q = removes-kept l (removeAll e s) (fuel-kept (length (s .dense)) e s q)
 
--- ---- ages: at most one record of each, and none from the number of pushes on
-abbrev pub Ages : List Rec → ℕ → Type 0
-Ages d p = (a : ℕ) → countP (λ r. eqb a (r .age)) d ≤ one (ltb a p)
-
--- slots: of the live and the free ones together, each below the number grown is there once, and no other
-abbrev pub SlotsOf : List Rec → List ℕ → Type 0
-SlotsOf d f = (k : ℕ) → countP (λ r. eqb k (r .slot)) d + countP (eqb k) f ≡ one (ltb k (length d + length f))
-
-pub record Numbered (s : Store) : Type 0 where
-  pub ages : Ages (s .dense) (s .pushes)
-  pub slots : SlotsOf (s .dense) (s .free)
-
+-- ---- ages and slots
 below-suc : (k p : ℕ) → one (ltb k p) + one (eqb k p) ≡ one (ltb k (suc p))
 below-suc k p =
     both (true-or-false (eqb k p))

@@ -1,1 +1,6 @@
 pub mod Store
+pub mod Numbered
+pub mod Lists
+pub mod Pool
+pub mod Within
+pub mod Holds

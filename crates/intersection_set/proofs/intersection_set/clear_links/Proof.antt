@@ -1,0 +1,68 @@
+-- `clear_links` meets its contract: its four stores are those of `clearEnds`.
+use mathlib.Core.Path.{refl}
+use Rattle.intersection_set.specs.Pool.{clearEnds}
+use borrow.Author.Needs.{needs}
+use Rattle.intersection_set.proofs.intersection_set.clear_links.Statement.{statement}
+use Rattle.intersection_set.proofs.intersection_set.clear_links.Tie as tie
+
+cast-i : tie.Need-cast-i
+cast-i c = search needs
+
+mul-next0 : tie.Need-mul-next0
+mul-next0 c = search needs
+
+slice-write-next0 : tie.Need-slice-write-next0
+slice-write-next0 c = search needs
+
+mul-prev0 : tie.Need-mul-prev0
+mul-prev0 c = search needs
+
+slice-write-prev0 : tie.Need-slice-write-prev0
+slice-write-prev0 c = search needs
+
+mul-next1 : tie.Need-mul-next1
+mul-next1 c = search needs
+
+slice-write-next1 : tie.Need-slice-write-next1
+slice-write-next1 c = search needs
+
+mul-prev1 : tie.Need-mul-prev1
+mul-prev1 c = search needs
+
+slice-write-prev1 : tie.Need-slice-write-prev1
+slice-write-prev1 c = search needs
+
+same-length : tie.Need-same-length
+same-length c = search needs
+
+same-length-2 : tie.Need-same-length-2
+same-length-2 c = search needs
+
+same-length-3 : tie.Need-same-length-3
+same-length-3 c = search needs
+
+same-length-4 : tie.Need-same-length-4
+same-length-4 c = search needs
+
+returns : tie.Need-returns
+unfolding clearEnds
+returns c = (refl, refl)
+
+pub clear-links-spec : {M : Type 1} → statement M
+clear-links-spec =
+    tie.close
+    (tie.spec
+    cast-i
+    mul-next0
+    slice-write-next0
+    mul-prev0
+    slice-write-prev0
+    mul-next1
+    slice-write-next1
+    mul-prev1
+    slice-write-prev1
+    same-length
+    same-length-2
+    same-length-3
+    same-length-4
+    returns)

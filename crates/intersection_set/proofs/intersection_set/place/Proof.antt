@@ -1,0 +1,28 @@
+-- `place` meets its contract: nothing overflows, since both numbers of the edge are below n.
+use Prim.Native.Nat.{_≤_}
+use native.Mathlib.Nat.{mul-le-mul}
+use native.Mathlib.Omega.{arith}
+use borrow.Author.Needs.{needs}
+use Rattle.intersection_set.proofs.intersection_set.place.Statement.{statement}
+use Rattle.intersection_set.proofs.intersection_set.place.Tie as tie
+
+small : (c : tie.Start) → c .args .e .min .0 ≤ 256
+small c = omega (arith, c .pre .0, c .pre .1 .up, c .pre .1 .top)
+
+cast-result : tie.Need-cast-result
+cast-result c = search needs
+
+cast-result-2 : tie.Need-cast-result-2
+cast-result-2 c = search needs
+
+mul-result : tie.Need-mul-result
+mul-result c = omega (arith, mul-le-mul (c .before .before .pre .0) (small (c .before .before)))
+
+add-result : tie.Need-add-result
+add-result c = omega (arith, mul-le-mul (c .before .before .pre .0) (small (c .before .before)), c .before .before .pre .0, c .before .before .pre .1 .top)
+
+returns : tie.Need-returns
+returns c = search needs
+
+pub place-spec : {M : Type 1} → statement M
+place-spec = tie.close (tie.spec cast-result cast-result-2 mul-result add-result returns)

@@ -1,0 +1,183 @@
+-- The lent buffers as lists, and what each step of the pool does to them.
+use mathlib.Core.Bool.{cond}
+use mathlib.Core.List.{List, _++_}
+use Prim.Native.Nat.{ℕ, zero, suc, _+_, _-_, _*_}
+use lib.ListN.{getD, set, drop, replicate}
+use lib.Dec.{eqb}
+use Rattle.index_edge.specs.Edge.{Edge, eqE, ltE}
+use Rattle.intersection_set.specs.Lists.{none, headPlace}
+use Rattle.intersection_set.specs.declared.utils.Counts.{Counts}
+use Rattle.intersection_set.specs.declared.utils.Taken.{Taken}
+
+-- one list for each of a record's two edges
+pub record Ends : Type 0 where
+  pub x0 : List ℕ
+  pub x1 : List ℕ
+
+abbrev pub ends : List ℕ → List ℕ → Ends
+ends x0 x1 = record { x0 = x0; x1 = x1 }
+
+-- the points of each record's two edges
+pub record Edges : Type 0 where
+  pub min0 : List ℕ
+  pub max0 : List ℕ
+  pub min1 : List ℕ
+  pub max1 : List ℕ
+
+abbrev pub edges : List ℕ → List ℕ → List ℕ → List ℕ → Edges
+edges min0 max0 min1 max1 = record { min0 = min0; max0 = max0; min1 = min1; max1 = max1 }
+
+-- each edge's head, and each record's links along its two edges
+pub record Links : Type 0 where
+  pub heads : List ℕ
+  pub next : Ends
+  pub prev : Ends
+
+abbrev pub links : List ℕ → List ℕ → List ℕ → List ℕ → List ℕ → Links
+links heads next0 prev0 next1 prev1 = record { heads = heads; next = ends next0 next1; prev = ends prev0 prev1 }
+
+-- the slots of the live records, and each live slot's place among them
+pub record Order : Type 0 where
+  pub dense : List ℕ
+  pub reverse : List ℕ
+
+abbrev pub order : List ℕ → List ℕ → Order
+order dense reverse = record { dense = dense; reverse = reverse }
+
+-- the whole pool
+pub record Pool : Type 0 where
+  pub edges : Edges
+  pub links : Links
+  pub order : Order
+  pub free : List ℕ
+  pub counts : Counts
+
+abbrev pub poolOf : List ℕ → List ℕ → List ℕ → List ℕ → List ℕ → List ℕ → List ℕ → List ℕ → List ℕ → List ℕ → List ℕ → List ℕ → Counts → Pool
+poolOf heads min0 max0 next0 prev0 min1 max1 next1 prev1 dense reverse free c =
+    record {
+      edges = edges min0 max0 min1 max1;
+      links = links heads next0 prev0 next1 prev1;
+      order = order dense reverse;
+      free = free;
+      counts = c;
+    }
+
+-- ---- slots
+abbrev pub counted : ℕ → ℕ → ℕ → Counts
+counted live grown freed = record { live = live; grown = grown; freed = freed }
+
+-- the slot freed last, else the next new one
+unfoldable pub takeSlot : Counts → List ℕ → Taken
+takeSlot c free =
+    cond (eqb (c .freed) 0)
+    (record { slot = record { 0 = c .grown }; counts = counted (c .live + 1) (c .grown + 1) 0 })
+    (record { slot = record { 0 = getD free (c .freed - 1) 0 }; counts = counted (c .live + 1) (c .grown) (c .freed - 1) })
+
+-- a slot is appended to the dense order
+unfoldable pub densePush : ℕ → ℕ → Order → Order
+densePush s live o = order (set (o .dense) live s) (set (o .reverse) s live)
+
+-- the last dense entry is put in the place of s
+unfoldable pub denseRemove : ℕ → ℕ → Order → Order
+denseRemove s live o =
+    order (set (o .dense) (getD (o .reverse) s 0) (getD (o .dense) (live - 1) 0)) (set (o .reverse) (getD (o .dense) (live - 1) 0) (getD (o .reverse) s 0))
+
+-- ---- lists
+abbrev pub edgeAt : List ℕ → List ℕ → ℕ → Edge
+edgeAt a b i = record { lo = getD a i 0; hi = getD b i 0 }
+
+-- the two edges of a slot
+abbrev pub end0 : Edges → ℕ → Edge
+end0 v t = edgeAt (v .min0) (v .max0) t
+
+abbrev pub end1 : Edges → ℕ → Edge
+end1 v t = edgeAt (v .min1) (v .max1) t
+
+-- the link to v is written at the slot s, in the end that names e; nothing where s is none
+unfoldable pub setEnd : ℕ → Edge → ℕ → List ℕ → List ℕ → Ends → Ends
+setEnd s e v min0 max0 x =
+    cond (eqb s none) x (cond (eqE e (edgeAt min0 max0 s)) (ends (set (x .x0) s v) (x .x1)) (ends (x .x0) (set (x .x1) s v)))
+
+abbrev pub headAt : ℕ → Edge → List ℕ → ℕ
+headAt n e heads = getD heads (headPlace n e) 0
+
+-- s goes in front of the list of e
+unfoldable pub linkFront : ℕ → Edge → ℕ → List ℕ → List ℕ → Links → Links
+linkFront n e s min0 max0 l =
+    record {
+      heads = set (l .heads) (headPlace n e) s;
+      next = setEnd s e (headAt n e (l .heads)) min0 max0 (l .next);
+      prev = setEnd (headAt n e (l .heads)) e s min0 max0 (l .prev);
+    }
+
+unfoldable pub setHead : ℕ → Edge → ℕ → ℕ → List ℕ → List ℕ
+setHead n e next prev heads = cond (eqb prev none) (set heads (headPlace n e) next) heads
+
+-- a record whose links along e are next and prev is taken out of the list of e
+unfoldable pub unlinkFrom : ℕ → Edge → ℕ → ℕ → List ℕ → List ℕ → Links → Links
+unlinkFrom n e next prev min0 max0 l =
+    record {
+      heads = setHead n e next prev (l .heads);
+      next = setEnd prev e next min0 max0 (l .next);
+      prev = setEnd next e prev min0 max0 (l .prev);
+    }
+
+-- ---- push
+unfoldable pub putEdges : ℕ → Edge → Edge → Edges → Edges
+putEdges s e0 e1 v = edges (set (v .min0) s (e0 .lo)) (set (v .max0) s (e0 .hi)) (set (v .min1) s (e1 .lo)) (set (v .max1) s (e1 .hi))
+
+unfoldable pub clearEnds : ℕ → Ends → Ends
+clearEnds s x = ends (set (x .x0) s none) (set (x .x1) s none)
+
+abbrev pub clearLinks : ℕ → Links → Links
+clearLinks s l = record { heads = l .heads; next = clearEnds s (l .next); prev = clearEnds s (l .prev) }
+
+-- a record of e0 and e1 at the slot s, in front of both lists
+abbrev pub pushAt : ℕ → Edge → Edge → ℕ → Counts → Pool → Pool
+pushAt n e0 e1 s c p =
+    let v = putEdges s e0 e1 (p .edges) in
+    record {
+      edges = v;
+      links = linkFront n e1 s (v .min0) (v .max0) (linkFront n e0 s (v .min0) (v .max0) (clearLinks s (p .links)));
+      order = densePush s (p .counts .live) (p .order);
+      free = p .free;
+      counts = c;
+    }
+
+unfoldable pub poolPush : ℕ → Edge → Edge → Pool → Pool
+poolPush n e0 e1 p = pushAt n e0 e1 (takeSlot (p .counts) (p .free) .slot .0) (takeSlot (p .counts) (p .free) .counts) p
+
+-- the smaller edge, and the other
+abbrev pub lesser : Edge → Edge → Edge
+lesser a b = cond (ltE a b) a b
+
+abbrev pub greater : Edge → Edge → Edge
+greater a b = cond (ltE a b) b a
+
+-- ---- remove
+abbrev pub unlinkBoth : ℕ → ℕ → Pool → Links
+unlinkBoth n s p =
+    unlinkFrom n (end1 (p .edges) s) (getD (p .links .next .x1) s 0) (getD (p .links .prev .x1) s 0) (p .edges .min0) (p .edges .max0)
+    (unlinkFrom n (end0 (p .edges) s) (getD (p .links .next .x0) s 0) (getD (p .links .prev .x0) s 0) (p .edges .min0) (p .edges .max0) (p .links))
+
+-- the record at s is unlinked, the last dense entry put in its dense place, and the slot freed
+unfoldable pub poolRemove : ℕ → ℕ → Pool → Pool
+poolRemove n s p =
+    record {
+      edges = p .edges;
+      links = unlinkBoth n s p;
+      order = denseRemove s (p .counts .live) (p .order);
+      free = set (p .free) (p .counts .freed) s;
+      counts = counted (p .counts .live - 1) (p .counts .grown) (p .counts .freed + 1);
+    }
+
+-- newest first, at most as many as the number says
+unfoldable pub poolRemoveAll : ℕ → Edge → ℕ → Pool → Pool
+poolRemoveAll n e zero p = p
+poolRemoveAll n e (suc k) p =
+    let r = poolRemoveAll n e k (poolRemove n (headAt n e (p .links .heads)) p) in
+    cond (eqb (headAt n e (p .links .heads)) none) p r
+
+-- ---- the start: the first m heads are none
+unfoldable pub fill : ℕ → List ℕ → List ℕ
+fill m l = replicate m none ++ drop m l

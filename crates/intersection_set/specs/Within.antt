@@ -1,0 +1,112 @@
+-- What the steps of the pool ask of the buffers, so that no index leaves them.
+use mathlib.Core.Path.{_≡_}
+use mathlib.Core.Logic.{_≢_}
+use mathlib.Core.List.{List}
+use Prim.Native.Nat.{ℕ, _+_, _-_, _*_, _<_, _≤_}
+use lib.ListN.{length, getD}
+use Rattle.index_edge.specs.Edge.{Edge}
+use Rattle.intersection_set.specs.Lists.{none, headPlace}
+use Rattle.intersection_set.specs.Pool.{Ends, Edges, Links, Order, Pool, end0, end1, headAt, poolRemove}
+use Rattle.intersection_set.specs.declared.utils.Counts.{Counts}
+
+-- an edge between two of n points
+pub record Proper (n : ℕ) (e : Edge) : Type 0 where
+  pub up : e .lo < e .hi
+  pub top : e .hi < n
+
+-- ---- slots
+pub record TakeOk (c : Counts) (free : List ℕ) : Type 0 where
+  pub few : c .freed ≤ length free
+  pub small : c .grown < 65535
+  pub lived : c .live < 65535
+
+pub record AppendOk (s live : ℕ) (o : Order) : Type 0 where
+  pub fits : live < 65536
+  pub in-dense : live < length (o .dense)
+  pub in-reverse : s < length (o .reverse)
+
+pub record DropOk (s live : ℕ) (o : Order) : Type 0 where
+  pub some : 0 < live
+  pub within : s < length (o .reverse)
+  pub few : live ≤ length (o .dense)
+  pub spot : getD (o .reverse) s 0 < length (o .dense)
+  pub last : getD (o .dense) (live - 1) 0 < length (o .reverse)
+
+-- ---- links
+-- a slot, if it is one, is inside the four lists
+pub record EndOk (s : ℕ) (min0 max0 : List ℕ) (x : Ends) : Type 0 where
+  pub in-min0 : s ≢ none → s < length min0
+  pub in-max0 : s ≢ none → s < length max0
+  pub in-x0 : s ≢ none → s < length (x .x0)
+  pub in-x1 : s ≢ none → s < length (x .x1)
+
+pub record HeadOk (n : ℕ) (e : Edge) (heads : List ℕ) : Type 0 where
+  pub small : n ≤ 256
+  pub edge : Proper n e
+  pub place : headPlace n e < length heads
+
+pub record LinkOk (n : ℕ) (e : Edge) (s : ℕ) (min0 max0 : List ℕ) (l : Links) : Type 0 where
+  pub head : HeadOk n e (l .heads)
+  pub first : EndOk s min0 max0 (l .next)
+  pub second : EndOk (headAt n e (l .heads)) min0 max0 (l .prev)
+
+pub record UnlinkOk (n : ℕ) (e : Edge) (next prev : ℕ) (min0 max0 : List ℕ) (l : Links) : Type 0 where
+  pub head : HeadOk n e (l .heads)
+  pub first : EndOk prev min0 max0 (l .next)
+  pub second : EndOk next min0 max0 (l .prev)
+
+pub record InEdges (s : ℕ) (v : Edges) : Type 0 where
+  pub in-min0 : s < length (v .min0)
+  pub in-max0 : s < length (v .max0)
+  pub in-min1 : s < length (v .min1)
+  pub in-max1 : s < length (v .max1)
+
+pub record InLinks (s : ℕ) (next prev : Ends) : Type 0 where
+  pub in-next0 : s < length (next .x0)
+  pub in-prev0 : s < length (prev .x0)
+  pub in-next1 : s < length (next .x1)
+  pub in-prev1 : s < length (prev .x1)
+
+-- ---- the whole pool
+-- the lists of a pool of n points are long enough
+pub record Sized (n : ℕ) (p : Pool) : Type 0 where
+  pub in-heads : n * (n - 1) ≤ length (p .links .heads)
+  pub in-next0 : n * (n - 1) ≤ length (p .links .next .x0)
+  pub in-prev0 : n * (n - 1) ≤ length (p .links .prev .x0)
+  pub in-next1 : n * (n - 1) ≤ length (p .links .next .x1)
+  pub in-prev1 : n * (n - 1) ≤ length (p .links .prev .x1)
+  pub in-min0 : n * (n - 1) ≤ length (p .edges .min0)
+  pub in-max0 : n * (n - 1) ≤ length (p .edges .max0)
+  pub in-min1 : n * (n - 1) ≤ length (p .edges .min1)
+  pub in-max1 : n * (n - 1) ≤ length (p .edges .max1)
+  pub in-dense : n * (n - 1) ≤ length (p .order .dense)
+  pub in-reverse : n * (n - 1) ≤ length (p .order .reverse)
+  pub in-free : n * (n - 1) ≤ length (p .free)
+
+-- what a pool of n points keeps, as far as its indices go
+pub record Good (n : ℕ) (p : Pool) : Type 0 where
+  pub small : n ≤ 256
+  pub sizes : Sized n p
+  pub split : p .counts .live + p .counts .freed ≡ p .counts .grown
+  pub bound : p .counts .grown ≤ n * (n - 1)
+  pub frees : (k : ℕ) → k < p .counts .freed → getD (p .free) k 0 < n * (n - 1)
+  pub head : (e : Edge) → Proper n e → headAt n e (p .links .heads) ≢ none → headAt n e (p .links .heads) < n * (n - 1)
+
+pub record PushOk (n : ℕ) (e0 e1 : Edge) (p : Pool) : Type 0 where
+  pub good : Good n p
+  pub edge0 : Proper n e0
+  pub edge1 : Proper n e1
+  pub room : p .counts .live < n * (n - 1)
+
+pub record RemoveOk (n s : ℕ) (p : Pool) : Type 0 where
+  pub in-edges : InEdges s (p .edges)
+  pub in-links : InLinks s (p .links .next) (p .links .prev)
+  pub in-free : p .counts .freed < length (p .free)
+  pub drops : DropOk s (p .counts .live) (p .order)
+  pub unlink0 : UnlinkOk n (end0 (p .edges) s) (getD (p .links .next .x0) s 0) (getD (p .links .prev .x0) s 0) (p .edges .min0) (p .edges .max0) (p .links)
+  pub unlink1 : UnlinkOk n (end1 (p .edges) s) (getD (p .links .next .x1) s 0) (getD (p .links .prev .x1) s 0) (p .edges .min0) (p .edges .max0) (p .links)
+
+-- the records of e can be removed, newest first, until there is none
+pub data Drained (n : ℕ) (e : Edge) : Pool → Type 0 where
+  empty : {p : Pool} → headAt n e (p .links .heads) ≡ none → Drained n e p
+  some : {p : Pool} → headAt n e (p .links .heads) ≢ none → RemoveOk n (headAt n e (p .links .heads)) p → Drained n e (poolRemove n (headAt n e (p .links .heads)) p) → Drained n e p
