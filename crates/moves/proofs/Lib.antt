@@ -1,2 +1,4 @@
 pub mod Walking
 pub mod Least
+pub mod RingWalk
+pub mod RunSteps
