@@ -25,6 +25,10 @@ module _ {n : ℕ} {x y : List ℤ} {r : List ℕ} (g : RingOver n x y r) where
   pub lesser-lt : {v i j : ℕ} → i < n → j < n → v ≡ lesserAt (points x y) r i j → v < n
   lesser-lt {v} {i} {j} li lj e = rw e (pick-lt (ltP (points x y (at r i)) (points x y (at r j))) i j n li lj)
 
-  pub least-lt : (k : ℕ) → k < n → leastTo n (points x y) r k < n
+  least-lt : (k : ℕ) → k < n → leastTo n (points x y) r k < n
   least-lt zero h = h
   least-lt (suc k) h = pick-lt (ltP (points x y (at r (suc k))) (points x y (at r (leastTo n (points x y) r k)))) (suc k) (leastTo n (points x y) r k) n h (least-lt k (omega arith))
+
+  -- the least of all n
+  pub found-lt : {v : ℕ} → 0 < n → v ≡ leastTo n (points x y) r (n - 1) → v < n
+  found-lt h e = rw e (least-lt (n - 1) (omega arith))

@@ -2,3 +2,5 @@ pub mod Walking
 pub mod Least
 pub mod RingWalk
 pub mod RunSteps
+pub mod KinkSearch
+pub mod PlanParts

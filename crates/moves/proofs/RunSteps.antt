@@ -1,16 +1,19 @@
 -- The run of an edge, step by step, back and on alike; and it lies within the ring.
-use mathlib.Core.Path.{_≡_, refl, sym, _∙_, ap}
+use mathlib.Core.Path.{_≡_, refl, sym, _∙_, ap, subst⁻¹}
 use mathlib.Core.Bool.{Bool, true, false, cond}
 use mathlib.Core.List.{List}
 use Prim.Native.Nat.{ℕ, zero, suc, _-_, _≤_, _<_}
 use native.Mathlib.Omega.{arith}
 use Rattle.geometry.specs.Plane.{Point}
-use Rattle.polygon.specs.Ring.{next, prev}
+use Rattle.polygon.specs.Ring.{next, prev, dist}
 use Rattle.polygon.specs.Place.{position}
 use Rattle.polygon.specs.declared.position.Position.{Position}
-use Rattle.polygon.proofs.Positions.{next-lt, prev-lt}
+use Rattle.polygon.proofs.Positions.{next-lt, prev-lt, dist-lt}
 use Rattle.machine.specs.Board.{straightLine}
 use Rattle.machine.specs.Search.{runBack, runOn}
+use Rattle.machine.proofs.SearchFits.{runBack-lt, runOn-lt}
+use Rattle.moves.specs.Runs.{runFrom, RunIn}
+use Rattle.moves.specs.declared.extremes.Run.{Run}
 use Rattle.moves.proofs.RingWalk.{Walk, walk-sized, walk-steps}
 
 -- `go` takes a step past each collinear vertex
@@ -49,3 +52,33 @@ module _ {pt : ℕ → Point} {r : List ℕ} {n : ℕ} {step : ℕ → ℕ → �
     -- so it does after all its steps
     pub run-ends : left ≤ 0 → p ≡ position n end
     run-ends h = there (ap (λ k. go k (p .id .0)) (let z : left ≡ 0 = omega arith in z) ∙ s .ends (p .id .0))
+
+-- ---- the run of the edge at a, from the corner behind it to the corner ahead
+module _ (pt : ℕ → Point) (r : List ℕ) {n a : ℕ} (l : a < n) where
+  abbrev corner-back : ℕ
+  corner-back = runBack n pt n r a
+
+  abbrev corner-on : ℕ
+  corner-on = runOn n pt n r (next n a)
+
+  back-lt : corner-back < n
+  back-lt = runBack-lt n pt r n a l
+
+  on-lt : corner-on < n
+  on-lt = runOn-lt n pt r n (next n a) (next-lt n a l)
+
+  pub run-in : {s : Run} → s ≡ runFrom n pt r a → RunIn n s
+  run-in e = subst⁻¹ (RunIn n) e (record { size = refl; below = back-lt; few = dist-lt n corner-back back-lt corner-on on-lt })
+
+  -- the corners as the code finds them, the second from the position behind a
+  module _ {min m max : Position} (e : min ≡ position n corner-back) (f : m ≡ position n (next n a)) (g : max ≡ position (m .size) (runOn (m .size) pt (m .size) r (m .id .0))) where
+    max-is : max ≡ position n corner-on
+    max-is = g ∙ ap (λ (m : Position). position (m .size) (runOn (m .size) pt (m .size) r (m .id .0))) f
+
+    pub corners-within : (min .id .0 < min .size) × (max .id .0 < min .size)
+    corners-within = rw (e, max-is) (back-lt, on-lt)
+
+    pub run-is : {d : ℕ} → d ≡ dist (min .size) (min .id .0) (max .id .0) → _≡_ {A = Run} (record { from = min; edges = d }) (runFrom n pt r a)
+    run-is {d} h =
+        let k : d ≡ dist n corner-back corner-on = h ∙ (λ t. dist (e t .size) (e t .id .0) (max-is t .id .0)) in
+        λ t. record { from = e t; edges = k t }

@@ -1,32 +1,32 @@
+-- `linear_extremes` meets its contract: its corners are those of the run.
+use mathlib.Core.Path.{_≡_}
+use denote.Ref.{now}
 use borrow.Author.Needs.{needs}
+use Rattle.geometry.specs.Lent.{points}
+use Rattle.polygon.proofs.Positions.{next-lt}
+use Rattle.moves.proofs.Walking.{over-at}
+use Rattle.moves.proofs.RunSteps.{corners-within, run-is}
 use Rattle.moves.proofs.extremes.linear_extremes.Statement.{statement}
 use Rattle.moves.proofs.extremes.linear_extremes.Tie as tie
-use Rattle.moves.proofs.extremes.linear_extremes.Reads as reads
-use Rattle.moves.proofs.extremes.linear_extremes.Lts as lts
-use Rattle.moves.proofs.extremes.distance.Reads as distance-reads
-use Rattle.moves.proofs.extremes.run_back.Reads as run-back-reads
-use Rattle.moves.proofs.extremes.run_on.Reads as run-on-reads
-use Rattle.polygon.proofs.position.Position.next.Reads as next-reads
 
--- src/extremes.rt:72:9
 run-back-requires : tie.Need-run-back-requires
 run-back-requires c κs = search needs
 
--- src/extremes.rt:73:34
 next-requires : tie.Need-next-requires
 next-requires c κs = search needs
 
--- src/extremes.rt:73:9
 run-on-requires : tie.Need-run-on-requires
-run-on-requires c κs = ?
+run-on-requires c κs = over-at (c .next .ensures) (c .before .before .before .pre .0) (next-lt _ _ (c .before .before .before .pre .1))
 
--- src/extremes.rt:76:16
 distance-requires : tie.Need-distance-requires
-distance-requires c κs = ?
+distance-requires c κs =
+    let s = c .before .before .before .before .args in
+    corners-within (points (now (s .x)) (now (s .y))) (now (s .ring)) (c .before .before .before .before .pre .1) (c .before .before .run-back .ensures) (c .before .next .ensures) (c .run-on .ensures)
 
--- src/extremes.rt:68:1
 returns : tie.Need-returns
-returns c = ?
+returns c =
+    let s = c .before .before .before .before .before .args in
+    run-is (points (now (s .x)) (now (s .y))) (now (s .ring)) (c .before .before .before .before .before .pre .1) (c .before .before .before .run-back .ensures) (c .before .before .next .ensures) (c .before .run-on .ensures) (c .distance .ensures)
 
 pub linear-extremes-spec : {M : Type 1} → statement M
 linear-extremes-spec =

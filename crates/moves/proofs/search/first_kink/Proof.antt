@@ -1,47 +1,51 @@
+-- `first_kink` meets its contract. The loop's invariant: the search on from here comes to the same answer.
+use native.Mathlib.Omega.{arith}
+use mathlib.Core.Path.{refl, sym, _∙_}
+use denote.Ref.{now}
+use Rattle.geometry.specs.Lent.{points}
+use Rattle.polygon.specs.Ring.{stretch}
+use Rattle.machine.specs.Search.{firstKink}
+use Rattle.moves.proofs.RingWalk.{Walk, walk-within, walk-beside}
+use Rattle.moves.proofs.KinkSearch.{kink-here, kink-goes, kink-ends}
 use Rattle.moves.proofs.search.first_kink.Statement.{statement}
 use Rattle.moves.proofs.search.first_kink.Tie as tie
-use Rattle.moves.proofs.search.first_kink.Reads as reads
-use Rattle.moves.proofs.search.first_kink.Lts as lts
-use Rattle.moves.proofs.vertex.is_mergable.Reads as is-mergable-reads
-use Rattle.polygon.proofs.position.Position.next.Reads as next-reads
 
 abbrev Inv-loop : tie.InvT-loop
-Inv-loop x y ring edge count at₀ left₀ at left = ?
+Inv-loop x y ring edge count at₀ left₀ at left =
+    Walk (edge .size) (λ k i. firstKink (edge .size) (points x y) ring (edge .id .0) (stretch (edge .size) i k)) (firstKink (edge .size) (points x y) ring (edge .id .0) (stretch (edge .size) (at₀ .id .0) count)) at left
 
 abbrev μ-loop : tie.MeasureT-loop
-μ-loop x y ring edge count at₀ left₀ at left = ?
+μ-loop x y ring edge count at₀ left₀ at left = left
 
--- src/search.rt:29:5
 loop-holds : tie.Need-loop-holds Inv-loop μ-loop
-loop-holds c = ?
+loop-holds c = record { size = c .before .pre .1 .same; below = c .before .pre .1 .second; same = refl }
 
--- src/search.rt:30:12
 is-mergable-requires : tie.Need-is-mergable-requires Inv-loop μ-loop
-is-mergable-requires c κs = ?
+is-mergable-requires c κs = (c .before .before .before .pre .0, walk-beside (c .before .loop .inv) (c .before .before .before .pre .1 .first))
 
--- src/search.rt:33:13
 returns : tie.Need-returns Inv-loop μ-loop
-returns c = ?
+returns c =
+    let s = c .before .before .before .before .before .before .before .args in
+    kink-here (s .edge .size) (points (now (s .x)) (now (s .y))) (now (s .ring)) (s .edge .id .0) (c .before .before .before .before .before .loop .inv) (c .before .before .before .before .loop-test .taken) (sym (c .before .before .before .is-mergable .ensures) ∙ c .before .before .if1 .taken)
 
--- src/search.rt:35:9
 next-requires : tie.Need-next-requires Inv-loop μ-loop
-next-requires c κs = ?
+next-requires c κs = walk-within (c .before .before .before .loop .inv)
 
--- src/search.rt:36:9
 sub-left : tie.Need-sub-left Inv-loop μ-loop
-sub-left c = ?
+sub-left c = omega arith
 
--- src/search.rt:29:5
 loop-less : tie.Need-loop-less Inv-loop μ-loop
-loop-less c = ?
+loop-less c = omega arith
 
--- src/search.rt:29:5
 loop-again : tie.Need-loop-again Inv-loop μ-loop
-loop-again c = ?
+loop-again c =
+    let s = c .before .before .before .before .before .before .args in
+    kink-goes (s .edge .size) (points (now (s .x)) (now (s .y))) (now (s .ring)) (s .edge .id .0) (c .before .before .before .before .loop .inv) (c .before .before .before .loop-test .taken) (sym (c .before .before .is-mergable .ensures) ∙ c .before .if1 .left) (c .next .ensures)
 
--- src/search.rt:23:1
 returns-2 : tie.Need-returns-2 Inv-loop μ-loop
-returns-2 c = ?
+returns-2 c =
+    let s = c .before .before .before .args in
+    kink-ends (s .edge .size) (points (now (s .x)) (now (s .y))) (now (s .ring)) (s .edge .id .0) (c .before .loop .inv) (c .loop-test .left)
 
 pub first-kink-spec : {M : Type 1} → statement M
 first-kink-spec =
