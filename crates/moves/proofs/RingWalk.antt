@@ -6,6 +6,8 @@ use lib.IntN.{ℤ}
 use Rattle.polygon.specs.Place.{position}
 use Rattle.polygon.specs.declared.position.Position.{Position}
 use Rattle.moves.specs.Walk.{RingOver, Both}
+use Rattle.moves.specs.Runs.{RunIn}
+use Rattle.moves.specs.declared.extremes.Run.{Run}
 use Rattle.moves.proofs.Walking.{at-id, at-size}
 
 -- the walk stands at a position, has some steps left, and will come to `end`
@@ -20,6 +22,10 @@ module _ {A : Type 0} {n : ℕ} {go : ℕ → ℕ → A} {end : A} {p : Position
 
   pub walk-over : {x y : List ℤ} {r : List ℕ} → RingOver n x y r → RingOver (p .size) x y r × (p .id .0 < p .size)
   walk-over g = rw (w .size) (g, w .below)
+
+  -- beside two runs of the ring
+  pub walk-runs : {x y : List ℤ} {r : List ℕ} {a b : Run} → RingOver n x y r → RunIn n a → RunIn n b → RingOver (p .size) x y r × (p .id .0 < p .size) × RunIn (p .size) a × RunIn (p .size) b
+  walk-runs g h k = rw (w .size) (g, w .below, h, k)
 
   -- a fact of a ring of that size
   pub walk-sized : (P : ℕ → Type 0) → P (p .size) → P n

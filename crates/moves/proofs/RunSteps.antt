@@ -4,6 +4,7 @@ use mathlib.Core.Bool.{Bool, true, false, cond}
 use mathlib.Core.List.{List}
 use Prim.Native.Nat.{ℕ, zero, suc, _-_, _≤_, _<_}
 use native.Mathlib.Omega.{arith}
+use lib.IntN.{ℤ}
 use Rattle.geometry.specs.Plane.{Point}
 use Rattle.polygon.specs.Ring.{next, prev, dist}
 use Rattle.polygon.specs.Place.{position}
@@ -12,6 +13,7 @@ use Rattle.polygon.proofs.Positions.{next-lt, prev-lt, dist-lt}
 use Rattle.machine.specs.Board.{straightLine}
 use Rattle.machine.specs.Search.{runBack, runOn}
 use Rattle.machine.proofs.SearchFits.{runBack-lt, runOn-lt}
+use Rattle.moves.specs.Walk.{RingOver}
 use Rattle.moves.specs.Runs.{runFrom, RunIn}
 use Rattle.moves.specs.declared.extremes.Run.{Run}
 use Rattle.moves.proofs.RingWalk.{Walk, walk-sized, walk-steps}
@@ -67,7 +69,7 @@ module _ (pt : ℕ → Point) (r : List ℕ) {n a : ℕ} (l : a < n) where
   on-lt : corner-on < n
   on-lt = runOn-lt n pt r n (next n a) (next-lt n a l)
 
-  pub run-in : {s : Run} → s ≡ runFrom n pt r a → RunIn n s
+  run-in : {s : Run} → s ≡ runFrom n pt r a → RunIn n s
   run-in e = subst⁻¹ (RunIn n) e (record { size = refl; below = back-lt; few = dist-lt n corner-back back-lt corner-on on-lt })
 
   -- the corners as the code finds them, the second from the position behind a
@@ -82,3 +84,12 @@ module _ (pt : ℕ → Point) (r : List ℕ) {n a : ℕ} (l : a < n) where
     run-is {d} h =
         let k : d ≡ dist n corner-back corner-on = h ∙ (λ t. dist (e t .size) (e t .id .0) (max-is t .id .0)) in
         λ t. record { from = e t; edges = k t }
+
+-- ---- runs of one ring
+pub run-beside : {n : ℕ} {s a b : Run} {x y : List ℤ} {r : List ℕ} → RunIn n s → RingOver n x y r → RunIn n a → RunIn n b →
+    RingOver (s .from .size) x y r × RunIn (s .from .size) s × RunIn (s .from .size) a × RunIn (s .from .size) b
+run-beside {s = s} {a = a} {b = b} {x = x} {y = y} {r = r} h g k l = subst⁻¹ (λ m. RingOver m x y r × RunIn m s × RunIn m a × RunIn m b) (h .size) (g, h, k, l)
+
+pub runs-over : (pt : ℕ → Point) (r : List ℕ) {n i j : ℕ} {x y : List ℤ} {a b : Run} → i < n → j < n → RingOver n x y r → a ≡ runFrom n pt r i → b ≡ runFrom n pt r j →
+    RingOver (a .from .size) x y r × RunIn (a .from .size) a × RunIn (a .from .size) b
+runs-over pt r li lj g e f = let h = run-in pt r li e in let z = run-beside h g h (run-in pt r lj f) in (z .0, z .1, z .3)

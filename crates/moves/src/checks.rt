@@ -9,14 +9,14 @@ ghost use Rattle.polygon.specs.Place.{position};
 ghost use Rattle.machine.specs.Board.{straightLine};
 ghost use Rattle.machine.specs.Answer.{inRange, newPoint, noneAlike, leastTo, clockwise};
 ghost use Rattle.moves.specs.Walk.{RingOver, lesserAt};
+use super::vertex::is_colinear;
+use super::vertex::number_at;
+use super::vertex::orientation;
 use geometry::point::alike_at;
 use geometry::point::is_near;
 use geometry::point::less_at;
 use polygon::position::Position;
 use polygon::position::PositionId;
-use super::vertex::is_colinear;
-use super::vertex::number_at;
-use super::vertex::orientation;
 
 fn near_at(x: &[i32], y: &[i32], i: usize) -> bool
     requires { ⌜ (i < length (now x)) × (i < length (now y)) ⌝ }

@@ -7,8 +7,8 @@ ghost use Rattle.polygon.specs.Ring.{dist};
 ghost use Rattle.machine.specs.Search.{runBack, runOn};
 ghost use Rattle.moves.specs.Walk.{RingOver};
 ghost use Rattle.moves.specs.Runs.{runFrom};
-use polygon::position::Position;
 use super::vertex::is_colinear;
+use polygon::position::Position;
 
 // A stretch of the ring: where it starts, and how many edges it has.
 pub struct Run {

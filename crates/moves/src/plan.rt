@@ -25,15 +25,15 @@ ghost use Rattle.moves.specs.Walk.{RingOver, Both};
 ghost use Rattle.moves.specs.Runs.{Folded};
 ghost use Rattle.moves.specs.Plan.{planOf, Met, Crossing};
 ghost use lib.ListN.{length};
+use super::search::Mergable;
+use super::search::kink_and_edge;
+use super::vertex::number_after;
+use super::vertex::number_at;
 use geometry::orientation::turn_at;
 use index_edge::IndexEdge;
 use polygon::polygon::direct;
 use polygon::position::Position;
 use polygon::position::PositionId;
-use super::search::Mergable;
-use super::search::kink_and_edge;
-use super::vertex::number_after;
-use super::vertex::number_at;
 
 // What a move does: the positions where two crossing edges start, or a kink and the edge that it goes into.
 pub enum Move {
@@ -89,7 +89,14 @@ fn move_at(x: &[i32], y: &[i32], ring: &[u16], da: Position, db: Position) -> Mo
 }
 
 // The move for a record of two edges.
-pub fn plan(x: &[i32], y: &[i32], ring: &[u16], index: &[u16], min: IndexEdge, max: IndexEdge) -> Move
+pub fn plan(
+    x: &[i32],
+    y: &[i32],
+    ring: &[u16],
+    index: &[u16],
+    min: IndexEdge,
+    max: IndexEdge,
+) -> Move
     requires { ⌜ Lent (length (now ring)) (now x) (now y) × Indexed (length (now ring)) (now ring) (now index) × Board (length (now ring)) (points (now x) (now y)) × Crossing (length (now ring)) (points (now x) (now y)) (now ring) (edgeOf min) (edgeOf max) ⌝ }
     ensures { λ r. ⌜ planOf r ≡ planAt (length (now (ring .entry))) (points (now (x .entry)) (now (y .entry))) (now (ring .entry)) (direct (length (now (ring .entry))) (now (ring .entry)) (edgeOf min)) (direct (length (now (ring .entry))) (now (ring .entry)) (edgeOf max)) ⌝ }
 {

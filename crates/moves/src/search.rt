@@ -7,11 +7,11 @@ ghost use Rattle.machine.specs.Board.{Board};
 ghost use Rattle.machine.specs.Search.{firstKink, searchEdges, kinkAndEdge, merge};
 ghost use Rattle.moves.specs.Walk.{RingOver, Both};
 ghost use Rattle.moves.specs.Runs.{RunIn, mergableOf, runPoints, runEdges, Folded};
-use polygon::position::Position;
-use polygon::position::PositionId;
 use super::extremes::Run;
 use super::extremes::linear_extremes;
 use super::vertex::is_mergable;
+use polygon::position::Position;
+use polygon::position::PositionId;
 
 // What the search finds: the position of a kink, and that of the edge that holds it strictly inside.
 pub enum Mergable {
@@ -20,7 +20,14 @@ pub enum Mergable {
 }
 
 // The first kink among `count` positions that the edge holds.
-fn first_kink(x: &[i32], y: &[i32], ring: &[u16], edge: Position, from: Position, count: u16) -> Mergable
+fn first_kink(
+    x: &[i32],
+    y: &[i32],
+    ring: &[u16],
+    edge: Position,
+    from: Position,
+    count: u16,
+) -> Mergable
     requires { ⌜ RingOver (edge .size) (now x) (now y) (now ring) × Both edge from ⌝ }
     ensures { λ r. ⌜ mergableOf r ≡ firstKink (edge .size) (points (now (x .entry)) (now (y .entry))) (now (ring .entry)) (edge .id .0) (stretch (edge .size) (from .id .0) count) ⌝ }
 {

@@ -1,34 +1,31 @@
+-- `hoist` meets its contract: on a board the search for two edges that meet on one line is never none.
+use denote.Ref.{now}
 use borrow.Author.Needs.{needs}
+use Rattle.geometry.specs.Lent.{points}
+use Rattle.moves.proofs.KinkSearch.{never-nothing}
+use Rattle.moves.proofs.PlanParts.{plan-hoist}
 use Rattle.moves.proofs.plan.hoist.Statement.{statement}
 use Rattle.moves.proofs.plan.hoist.Tie as tie
-use Rattle.moves.proofs.plan.hoist.Reads as reads
-use Rattle.moves.proofs.plan.hoist.Lts as lts
-use Rattle.moves.proofs.plan.unreached.Reads as unreached-reads
-use Rattle.moves.proofs.search.kink_and_edge.Reads as kink-and-edge-reads
 
--- src/plan.rt:71:9
 kink-and-edge-requires : tie.Need-kink-and-edge-requires
 kink-and-edge-requires c κs = search needs
 
--- src/plan.rt:72:27
 enum-known-mergable : tie.Need-enum-known-mergable
 enum-known-mergable c = search needs
 
--- src/plan.rt:73:9
 enum-told : tie.Need-enum-told
 enum-told c = search needs
 
--- src/plan.rt:73:9
 unreached-requires : tie.Need-unreached-requires
-unreached-requires c κs = ?
+unreached-requires c κs = let p = c .before .before .before .before .pre in never-nothing (p .0 .ring) (p .1) (p .2) (p .3) (c .enum-told .given .1) (c .before .before .kink-and-edge .ensures)
 
--- src/plan.rt:73:9
 returns : tie.Need-returns
-returns c = ?
+returns c = let p = c .before .before .before .before .before .pre in absurd (never-nothing (p .0 .ring) (p .1) (p .2) (p .3) (c .before .enum-told .given .1) (c .before .before .before .kink-and-edge .ensures))
 
--- src/plan.rt:67:1
 returns-2 : tie.Need-returns-2
-returns-2 c = ?
+returns-2 c =
+    let s = c .before .before .before .before .before .args in
+    plan-hoist (s .da .size) (points (now (s .x)) (now (s .y))) (now (s .ring)) (s .da .id .0) (s .db .id .0) (c .before .before .before .before .before .pre .3) (c .before .mergable .given .1) (c .before .before .before .kink-and-edge .ensures)
 
 pub hoist-spec : {M : Type 1} → statement M
 hoist-spec =

@@ -1,54 +1,59 @@
+-- `search_run` meets its contract. The loop's invariant: the search on from here comes to the same answer.
+use native.Mathlib.Omega.{arith}
+use mathlib.Core.Path.{refl}
+use denote.Ref.{now}
+use borrow.Author.Needs.{needs}
+use Rattle.geometry.specs.Lent.{points}
+use Rattle.polygon.specs.Ring.{stretch}
+use Rattle.machine.specs.Search.{searchEdges}
+use Rattle.moves.specs.Runs.{runPoints}
+use Rattle.moves.proofs.RingWalk.{Walk, walk-within, walk-runs}
+use Rattle.moves.proofs.KinkSearch.{edge-here, edge-goes, edges-end}
 use Rattle.moves.proofs.search.search_run.Statement.{statement}
 use Rattle.moves.proofs.search.search_run.Tie as tie
-use Rattle.moves.proofs.search.search_run.Reads as reads
-use Rattle.moves.proofs.search.search_run.Lts as lts
-use Rattle.moves.proofs.search.kink_of_runs.Reads as kink-of-runs-reads
-use Rattle.polygon.proofs.position.Position.next.Reads as next-reads
 
 abbrev Inv-loop : tie.InvT-loop
-Inv-loop x y ring a b at₀ left₀ at left = ?
+Inv-loop x y ring a b at₀ left₀ at left =
+    Walk (at₀ .size) (λ k i. searchEdges (at₀ .size) (points x y) ring (runPoints (at₀ .size) a b) (stretch (at₀ .size) i k)) (searchEdges (at₀ .size) (points x y) ring (runPoints (at₀ .size) a b) (stretch (at₀ .size) (at₀ .id .0) left₀)) at left
 
 abbrev μ-loop : tie.MeasureT-loop
-μ-loop x y ring a b at₀ left₀ at left = ?
+μ-loop x y ring a b at₀ left₀ at left = left
 
--- src/search.rt:60:5
 loop-holds : tie.Need-loop-holds Inv-loop μ-loop
-loop-holds c = ?
+loop-holds c = record { size = refl; below = c .before .before .pre .1 .below; same = refl }
 
--- src/search.rt:61:49
 kink-of-runs-requires : tie.Need-kink-of-runs-requires Inv-loop μ-loop
-kink-of-runs-requires c κs = ?
+kink-of-runs-requires c κs = let p = c .before .before .before .before .pre in walk-runs (c .before .loop .inv) (p .0) (p .2) (p .3)
 
--- src/search.rt:61:34
 enum-known-kink : tie.Need-enum-known-kink Inv-loop μ-loop
-enum-known-kink c = ?
+enum-known-kink c = search needs
 
--- src/search.rt:62:13
 returns : tie.Need-returns Inv-loop μ-loop
-returns c = ?
+returns c =
+    let s = c .before .before .before .before .before .before .before .before .args in
+    edge-here (s .run .from .size) (points (now (s .x)) (now (s .y))) (now (s .ring)) (s .a) (s .b) (c .before .before .before .before .before .loop .inv) (c .before .before .before .before .loop-test .taken) (c .before .kink .given .1) (c .before .before .before .kink-of-runs .ensures)
 
 enum-told : tie.Need-enum-told Inv-loop μ-loop
-enum-told c = ?
+enum-told c = search needs
 
--- src/search.rt:64:9
 next-requires : tie.Need-next-requires Inv-loop μ-loop
-next-requires c κs = ?
+next-requires c κs = walk-within (c .before .before .before .before .loop .inv)
 
--- src/search.rt:65:9
 sub-left : tie.Need-sub-left Inv-loop μ-loop
-sub-left c = ?
+sub-left c = omega arith
 
--- src/search.rt:60:5
 loop-less : tie.Need-loop-less Inv-loop μ-loop
-loop-less c = ?
+loop-less c = omega arith
 
--- src/search.rt:60:5
 loop-again : tie.Need-loop-again Inv-loop μ-loop
-loop-again c = ?
+loop-again c =
+    let s = c .before .before .before .before .before .before .before .before .args in
+    edge-goes (s .run .from .size) (points (now (s .x)) (now (s .y))) (now (s .ring)) (s .a) (s .b) (c .before .before .before .before .before .loop .inv) (c .before .before .before .before .loop-test .taken) (c .before .enum-told .given .1) (c .before .before .before .kink-of-runs .ensures) (c .next .ensures)
 
--- src/search.rt:54:1
 returns-2 : tie.Need-returns-2 Inv-loop μ-loop
-returns-2 c = ?
+returns-2 c =
+    let s = c .before .before .before .before .args in
+    edges-end (s .run .from .size) (points (now (s .x)) (now (s .y))) (now (s .ring)) (runPoints (s .run .from .size) (s .a) (s .b)) (c .before .loop .inv) (c .loop-test .left)
 
 pub search-run-spec : {M : Type 1} → statement M
 search-run-spec =
