@@ -1,4 +1,4 @@
-pub mod Walking
+pub mod RingPositions
 pub mod Least
 pub mod RingWalk
 pub mod RunSteps

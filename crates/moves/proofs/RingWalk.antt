@@ -1,5 +1,5 @@
 -- A loop that walks along the ring: `go k i` is what a walk of k steps from position i comes to, and each turn of the loop leaves that as it was.
-use mathlib.Core.Path.{_≡_, refl, sym, _∙_, ap}
+use mathlib.Core.Path.{_≡_, _∙_, ap}
 use mathlib.Core.List.{List}
 use Prim.Native.Nat.{ℕ, _-_, _<_}
 use lib.IntN.{ℤ}
@@ -8,7 +8,7 @@ use Rattle.polygon.specs.declared.position.Position.{Position}
 use Rattle.moves.specs.Walk.{RingOver, Both}
 use Rattle.moves.specs.Runs.{RunIn}
 use Rattle.moves.specs.declared.extremes.Run.{Run}
-use Rattle.moves.proofs.Walking.{at-id, at-size}
+use Rattle.moves.proofs.RingPositions.{at-id, at-size}
 
 -- the walk stands at a position, has some steps left, and will come to `end`
 pub record Walk {A : Type 0} (n : ℕ) (go : ℕ → ℕ → A) (end : A) (p : Position) (left : ℕ) : Type 0 where

@@ -17,10 +17,10 @@
 ghost use mathlib.Core.Path.{_≡_};
 ghost use Rattle.geometry.specs.Lent.{points, Lent};
 ghost use Rattle.index_edge.specs.Number.{edgeOf};
-ghost use Rattle.polygon.specs.Ring.{IsRing, Indexed};
+ghost use Rattle.polygon.specs.Ring.{Indexed};
 ghost use Rattle.polygon.specs.Edges.{direct};
 ghost use Rattle.machine.specs.Board.{Board};
-ghost use Rattle.machine.specs.Search.{flat, planAt, kinkAndEdge, merge};
+ghost use Rattle.machine.specs.Search.{flat, planAt};
 ghost use Rattle.moves.specs.Walk.{RingOver, Both};
 ghost use Rattle.moves.specs.Runs.{Folded};
 ghost use Rattle.moves.specs.Plan.{planOf, Met, Crossing};

@@ -2,11 +2,10 @@
 ghost use mathlib.Core.Path.{_≡_};
 ghost use Prim.Native.Nat.{_+_, _<_};
 ghost use Rattle.geometry.specs.Lent.{points};
-ghost use Rattle.polygon.specs.Ring.{IsRing, stretch};
-ghost use Rattle.machine.specs.Board.{Board};
-ghost use Rattle.machine.specs.Search.{firstKink, searchEdges, kinkAndEdge, merge};
+ghost use Rattle.polygon.specs.Ring.{stretch};
+ghost use Rattle.machine.specs.Search.{firstKink, searchEdges, kinkAndEdge};
 ghost use Rattle.moves.specs.Walk.{RingOver, Both};
-ghost use Rattle.moves.specs.Runs.{RunIn, mergableOf, runPoints, runEdges, Folded};
+ghost use Rattle.moves.specs.Runs.{RunIn, mergableOf, runPoints, runEdges};
 use super::extremes::Run;
 use super::extremes::linear_extremes;
 use super::vertex::is_mergable;

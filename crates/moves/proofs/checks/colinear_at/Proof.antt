@@ -5,7 +5,7 @@ use borrow.Author.Needs.{needs}
 use Rattle.geometry.specs.Lent.{points}
 use Rattle.polygon.specs.declared.position.Position.{Position}
 use Rattle.machine.specs.Board.{straightLine}
-use Rattle.moves.proofs.Walking.{over-at}
+use Rattle.moves.proofs.RingPositions.{over-at}
 use Rattle.moves.proofs.checks.colinear_at.Statement.{statement}
 use Rattle.moves.proofs.checks.colinear_at.Tie as tie
 

@@ -1,7 +1,5 @@
 -- `is_clockwise` meets its contract: it asks how the ring turns at its least point.
-use native.Mathlib.Omega.{arith}
-use Prim.Native.Nat.{_-_}
-use mathlib.Core.Path.{_≡_, _∙_, ap}
+use mathlib.Core.Path.{_∙_, ap}
 use lib.Signed.{ltZ}
 use lib.IntN.{ℤ, pos}
 use denote.Ref.{now}
@@ -10,7 +8,7 @@ use Rattle.geometry.specs.Lent.{points}
 use Rattle.geometry.proofs.Reading.{read-64}
 use Rattle.polygon.specs.declared.position.Position.{Position}
 use Rattle.machine.specs.Board.{turnAt}
-use Rattle.moves.proofs.Walking.{over-at}
+use Rattle.moves.proofs.RingPositions.{over-at}
 use Rattle.moves.proofs.Least.{found-lt}
 use Rattle.moves.proofs.checks.is_clockwise.Statement.{statement}
 use Rattle.moves.proofs.checks.is_clockwise.Tie as tie

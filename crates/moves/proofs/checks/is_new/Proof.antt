@@ -5,11 +5,10 @@ use mathlib.Core.Path.{_≡_, refl, sym, _∙_, ap}
 use mathlib.Core.Bool.{true, not}
 use denote.Ref.{now}
 use Rattle.algebra.specs.Ranges.{allBelow}
-use Rattle.algebra.specs.Cases.{not-true, not-false}
 use Rattle.polygon.proofs.EachOnce.{all-more, all-fails, all-done}
 use Rattle.geometry.specs.Plane.{eqP}
 use Rattle.geometry.specs.Lent.{points}
-use Rattle.moves.proofs.Walking.{here}
+use Rattle.moves.proofs.RingPositions.{here}
 use Rattle.moves.proofs.checks.is_new.Statement.{statement}
 use Rattle.moves.proofs.checks.is_new.Tie as tie
 
@@ -26,7 +25,9 @@ alike-at-requires : tie.Need-alike-at-requires Inv-loop μ-loop
 alike-at-requires c κs = (here (c .before .before .pre .0) (omega arith), here (c .before .before .pre .0) (c .before .before .pre .1))
 
 returns : tie.Need-returns Inv-loop μ-loop
-returns c = all-fails (λ j. not (eqP (points (now (c .before .before .before .before .args .x)) (now (c .before .before .before .before .args .y)) j) (points (now (c .before .before .before .before .args .x)) (now (c .before .before .before .before .args .y)) (c .before .before .before .before .args .i)))) (c .before .before .before .before .args .i) (c .before .before .before .loop .j) (c .before .before .loop-test .taken) (ap not (sym (c .before .alike-at .ensures) ∙ c .if1 .taken))
+returns c =
+    let s = c .before .before .before .before .args in
+    all-fails (λ j. not (eqP (points (now (s .x)) (now (s .y)) j) (points (now (s .x)) (now (s .y)) (s .i)))) (s .i) (c .before .before .before .loop .j) (c .before .before .loop-test .taken) (ap not (sym (c .before .alike-at .ensures) ∙ c .if1 .taken))
 
 add-j : tie.Need-add-j Inv-loop μ-loop
 add-j c = omega arith
@@ -35,10 +36,14 @@ loop-less : tie.Need-loop-less Inv-loop μ-loop
 loop-less c = omega arith
 
 loop-again : tie.Need-loop-again Inv-loop μ-loop
-loop-again c = (omega arith, all-more (λ j. not (eqP (points (now (c .before .before .before .before .args .x)) (now (c .before .before .before .before .args .y)) j) (points (now (c .before .before .before .before .args .x)) (now (c .before .before .before .before .args .y)) (c .before .before .before .before .args .i)))) (c .before .before .before .loop .j) (c .before .before .before .loop .inv .1) (ap not (sym (c .before .alike-at .ensures) ∙ c .if1 .left)))
+loop-again c =
+    let s = c .before .before .before .before .args in
+    (omega arith, all-more (λ j. not (eqP (points (now (s .x)) (now (s .y)) j) (points (now (s .x)) (now (s .y)) (s .i)))) (c .before .before .before .loop .j) (c .before .before .before .loop .inv .1) (ap not (sym (c .before .alike-at .ensures) ∙ c .if1 .left)))
 
 returns-2 : tie.Need-returns-2 Inv-loop μ-loop
-returns-2 c = all-done (λ j. not (eqP (points (now (c .before .before .args .x)) (now (c .before .before .args .y)) j) (points (now (c .before .before .args .x)) (now (c .before .before .args .y)) (c .before .before .args .i)))) (c .before .before .args .i) (c .before .loop .j) (c .loop-test .left) (c .before .loop .inv .0) (c .before .loop .inv .1)
+returns-2 c =
+    let s = c .before .before .args in
+    all-done (λ j. not (eqP (points (now (s .x)) (now (s .y)) j) (points (now (s .x)) (now (s .y)) (s .i)))) (s .i) (c .before .loop .j) (c .loop-test .left) (c .before .loop .inv .0) (c .before .loop .inv .1)
 
 pub is-new-spec : {M : Type 1} → statement M
 is-new-spec =

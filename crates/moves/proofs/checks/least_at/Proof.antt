@@ -1,7 +1,7 @@
 -- `least_at` meets its contract. The loop's invariant: `least` is the position of the least of the points before i.
 use native.Mathlib.Omega.{arith}
 use Prim.Native.Nat.{_≤_, _<_, _-_}
-use mathlib.Core.Path.{_≡_, refl, sym, _∙_, ap}
+use mathlib.Core.Path.{_≡_, refl, _∙_, ap}
 use denote.Ref.{now}
 use Rattle.machine.specs.Answer.{leastTo}
 use Rattle.geometry.specs.Lent.{points}
@@ -29,13 +29,15 @@ loop-less c = omega arith
 
 loop-again : tie.Need-loop-again Inv-loop μ-loop
 loop-again c =
+    let g = c .before .before .before .before .pre .0 in
     let v = c .before .before .loop .inv in
-    (omega arith, omega arith, lesser-lt (c .before .before .before .before .pre .0) (c .before .loop-test .taken) (v .2) (c .lesser-at .ensures), c .lesser-at .ensures ∙ least-more (c .before .before .before .before .pre .0) (c .before .before .loop .i) (c .before .before .loop .least) (v .0) (v .3))
+    (omega arith, omega arith, lesser-lt g (c .before .loop-test .taken) (v .2) (c .lesser-at .ensures), c .lesser-at .ensures ∙ least-more g (c .before .before .loop .i) (c .before .before .loop .least) (v .0) (v .3))
 
 returns : tie.Need-returns Inv-loop μ-loop
 returns c =
-    let z : c .before .loop .i ≡ c .before .before .before .args .n = omega arith in
-    c .before .loop .inv .3 ∙ ap (λ i. leastTo (c .before .before .before .args .n) (points (now (c .before .before .before .args .x)) (now (c .before .before .before .args .y))) (now (c .before .before .before .args .ring)) (i - 1)) z
+    let s = c .before .before .before .args in
+    let z : c .before .loop .i ≡ s .n = omega arith in
+    c .before .loop .inv .3 ∙ ap (λ i. leastTo (s .n) (points (now (s .x)) (now (s .y))) (now (s .ring)) (i - 1)) z
 
 pub least-at-spec : {M : Type 1} → statement M
 least-at-spec =

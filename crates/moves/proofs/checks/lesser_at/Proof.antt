@@ -1,12 +1,12 @@
 -- `lesser_at` meets its contract: it compares the points at the two positions.
-use mathlib.Core.Path.{_≡_, sym, _∙_, ap}
+use mathlib.Core.Path.{sym, _∙_, ap}
 use denote.Ref.{now}
 use borrow.Author.Needs.{needs}
 use Rattle.geometry.specs.Plane.{ltP}
 use Rattle.geometry.specs.Lent.{points}
 use Rattle.geometry.proofs.Choosing.{taken, left}
 use Rattle.polygon.specs.Ring.{at}
-use Rattle.moves.proofs.Walking.{at-id, ring-at, stands}
+use Rattle.moves.proofs.RingPositions.{at-id, ring-at, stands}
 use Rattle.moves.proofs.checks.lesser_at.Statement.{statement}
 use Rattle.moves.proofs.checks.lesser_at.Tie as tie
 

@@ -1,10 +1,9 @@
 -- `linear_extremes` meets its contract: its corners are those of the run.
-use mathlib.Core.Path.{_≡_}
 use denote.Ref.{now}
 use borrow.Author.Needs.{needs}
 use Rattle.geometry.specs.Lent.{points}
 use Rattle.polygon.proofs.Positions.{next-lt}
-use Rattle.moves.proofs.Walking.{over-at}
+use Rattle.moves.proofs.RingPositions.{over-at}
 use Rattle.moves.proofs.RunSteps.{corners-within, run-is}
 use Rattle.moves.proofs.extremes.linear_extremes.Statement.{statement}
 use Rattle.moves.proofs.extremes.linear_extremes.Tie as tie

@@ -1,6 +1,6 @@
 -- `parallel_edges` meets its contract: its four numbers are those of the edges' ends, and a turn is read as 0 exactly where it is 0.
-use mathlib.Core.Path.{_≡_, _∙_, ap, ap₂}
 use mathlib.Core.Bool.{_&&_}
+use mathlib.Core.Path.{_∙_, ap, ap₂}
 use denote.Ref.{now}
 use borrow.Author.Needs.{needs}
 use Rattle.geometry.specs.Plane.{collinear, isZero}
@@ -8,7 +8,7 @@ use Rattle.geometry.specs.Lent.{points}
 use Rattle.geometry.proofs.Reading.{zero-bits}
 use Rattle.polygon.specs.Ring.{at, next}
 use Rattle.polygon.proofs.Positions.{next-lt}
-use Rattle.moves.proofs.Walking.{stands, second-ring}
+use Rattle.moves.proofs.RingPositions.{stands, second-ring}
 use Rattle.moves.proofs.plan.parallel_edges.Statement.{statement}
 use Rattle.moves.proofs.plan.parallel_edges.Tie as tie
 

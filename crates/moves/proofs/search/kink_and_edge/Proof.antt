@@ -1,10 +1,10 @@
 -- `kink_and_edge` meets its contract: the two runs are those of the edges.
-use mathlib.Core.Path.{_≡_, _∙_, ap}
+use mathlib.Core.Path.{_∙_, ap}
 use denote.Ref.{now}
 use borrow.Author.Needs.{needs}
 use Rattle.geometry.specs.Lent.{points}
 use Rattle.moves.specs.Runs.{runFrom}
-use Rattle.moves.proofs.Walking.{second-over}
+use Rattle.moves.proofs.RingPositions.{second-over}
 use Rattle.moves.proofs.RunSteps.{runs-over}
 use Rattle.moves.proofs.KinkSearch.{both-runs}
 use Rattle.moves.proofs.search.kink_and_edge.Statement.{statement}

@@ -1,11 +1,11 @@
 -- `holds` meets its contract: its numbers are those of the edge's ends and of the point.
-use mathlib.Core.Path.{_≡_, _∙_, ap}
+use mathlib.Core.Path.{_∙_}
 use denote.Ref.{now}
 use borrow.Author.Needs.{needs}
 use Rattle.geometry.specs.Segment.{inside}
 use Rattle.geometry.specs.Lent.{points}
 use Rattle.polygon.proofs.Positions.{next-lt}
-use Rattle.moves.proofs.Walking.{stands, second-ring}
+use Rattle.moves.proofs.RingPositions.{stands, second-ring}
 use Rattle.moves.proofs.vertex.holds.Statement.{statement}
 use Rattle.moves.proofs.vertex.holds.Tie as tie
 

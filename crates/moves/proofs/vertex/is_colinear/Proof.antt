@@ -1,5 +1,5 @@
 -- `is_colinear` meets its contract: a turn is read as 0 exactly where it is 0.
-use mathlib.Core.Path.{_≡_, _∙_, ap}
+use mathlib.Core.Path.{_∙_, ap}
 use borrow.Author.Needs.{needs}
 use Rattle.geometry.specs.Plane.{isZero}
 use Rattle.geometry.proofs.Reading.{zero-bits}

@@ -1,12 +1,12 @@
 -- `is_kink` meets its contract: its three numbers are those beside the position and at it.
-use mathlib.Core.Path.{_≡_, _∙_, ap}
+use mathlib.Core.Path.{_∙_, ap}
 use mathlib.Core.Bool.{not}
 use denote.Ref.{now}
 use borrow.Author.Needs.{needs}
 use Rattle.geometry.specs.Segment.{inside}
 use Rattle.geometry.specs.Lent.{points}
 use Rattle.polygon.proofs.Positions.{next-lt, prev-lt}
-use Rattle.moves.proofs.Walking.{stands}
+use Rattle.moves.proofs.RingPositions.{stands}
 use Rattle.moves.proofs.vertex.is_kink.Statement.{statement}
 use Rattle.moves.proofs.vertex.is_kink.Tie as tie
 

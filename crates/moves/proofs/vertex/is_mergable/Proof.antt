@@ -1,23 +1,22 @@
 -- `is_mergable` meets its contract: where the edge does not hold the point, the kink need not be asked.
-use mathlib.Core.Path.{_≡_, _∙_, sym, ap}
+use mathlib.Core.Path.{_≡_, refl, _∙_, sym, ap}
 use mathlib.Core.Bool.{Bool, true, false, _&&_}
 use borrow.Author.Needs.{needs}
 use Rattle.algebra.specs.Cases.{not-true, not-false}
-use Rattle.polygon.specs.declared.position.Position.{Position}
 use Rattle.geometry.specs.Lent.{points}
 use Rattle.machine.specs.Board.{kinkAt}
 use denote.Ref.{now}
-use Rattle.moves.proofs.Walking.{second-over}
+use Rattle.moves.proofs.RingPositions.{second-over}
 use Rattle.moves.proofs.vertex.is_mergable.Statement.{statement}
 use Rattle.moves.proofs.vertex.is_mergable.Tie as tie
 
 and-no : (s t : Bool) → t ≡ false → false ≡ (s && t)
 and-no true t e = sym e
-and-no false t e = sym e ∙ e
+and-no false t e = refl
 
 and-yes : (s t : Bool) → t ≡ true → s ≡ (s && t)
 and-yes true t e = sym e
-and-yes false t e = ap (λ b. false && b) e
+and-yes false t e = refl
 
 holds-requires : tie.Need-holds-requires
 holds-requires c κs = search needs

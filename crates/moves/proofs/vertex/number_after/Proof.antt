@@ -1,10 +1,10 @@
 -- `number_after` meets its contract: the position one place on is one of the same ring.
-use mathlib.Core.Path.{_≡_, _∙_, ap}
+use mathlib.Core.Path.{_∙_, ap}
 use denote.Ref.{now}
 use borrow.Author.Needs.{needs}
 use Rattle.polygon.specs.Ring.{at}
 use Rattle.polygon.proofs.Positions.{next-lt}
-use Rattle.moves.proofs.Walking.{at-id, ring-at}
+use Rattle.moves.proofs.RingPositions.{at-id, ring-at}
 use Rattle.moves.proofs.vertex.number_after.Statement.{statement}
 use Rattle.moves.proofs.vertex.number_after.Tie as tie
 

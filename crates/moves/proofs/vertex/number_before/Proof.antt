@@ -1,10 +1,10 @@
 -- `number_before` meets its contract: the position one place back is one of the same ring.
-use mathlib.Core.Path.{_≡_, _∙_, ap}
+use mathlib.Core.Path.{_∙_, ap}
 use denote.Ref.{now}
 use borrow.Author.Needs.{needs}
 use Rattle.polygon.specs.Ring.{at}
 use Rattle.polygon.proofs.Positions.{prev-lt}
-use Rattle.moves.proofs.Walking.{at-id, ring-at}
+use Rattle.moves.proofs.RingPositions.{at-id, ring-at}
 use Rattle.moves.proofs.vertex.number_before.Statement.{statement}
 use Rattle.moves.proofs.vertex.number_before.Tie as tie
 

@@ -1,12 +1,12 @@
 -- `orientation` meets its contract: its three numbers are those at the position and beside it.
-use mathlib.Core.Path.{_≡_, _∙_}
+use mathlib.Core.Path.{_∙_}
 use denote.Ref.{now}
 use borrow.Author.Needs.{needs}
 use Rattle.geometry.specs.Plane.{turn}
 use Rattle.geometry.specs.Lent.{points}
 use Rattle.geometry.proofs.Reading.{read-64}
 use Rattle.polygon.proofs.Positions.{next-lt, prev-lt}
-use Rattle.moves.proofs.Walking.{stands}
+use Rattle.moves.proofs.RingPositions.{stands}
 use Rattle.moves.proofs.vertex.orientation.Statement.{statement}
 use Rattle.moves.proofs.vertex.orientation.Tie as tie
 

@@ -1,10 +1,9 @@
 -- Positions of a ring over lent points: what a callee asks of a position, and where the points stand that the ring names.
-use mathlib.Core.Path.{_≡_, sym, ap, subst⁻¹}
+use mathlib.Core.Path.{_≡_, ap, subst⁻¹}
 use mathlib.Core.List.{List}
-use Prim.Native.Nat.{ℕ, _≤_, _<_}
+use Prim.Native.Nat.{ℕ, _<_}
 use native.Mathlib.Omega.{arith}
 use lib.IntN.{ℤ}
-use lib.ListN.{length}
 use Rattle.geometry.specs.Lent.{Here, Lent}
 use Rattle.polygon.specs.Ring.{IsRing, at}
 use Rattle.polygon.specs.Place.{position}
