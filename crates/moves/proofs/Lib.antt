@@ -1,0 +1,6 @@
+pub mod RingPositions
+pub mod Least
+pub mod RingWalk
+pub mod RunSteps
+pub mod KinkSearch
+pub mod PlanParts

@@ -1,0 +1,78 @@
+// The run of an edge (two_opt.rs, `linear_extremes`): it stretches back and on past collinear vertices to a corner.
+ghost use mathlib.Core.Path.{_≡_};
+ghost use Prim.Native.Nat.{_<_};
+ghost use Rattle.geometry.specs.Lent.{points};
+ghost use Rattle.polygon.specs.Place.{position};
+ghost use Rattle.polygon.specs.Ring.{dist};
+ghost use Rattle.machine.specs.Search.{runBack, runOn};
+ghost use Rattle.moves.specs.Walk.{RingOver};
+ghost use Rattle.moves.specs.Runs.{runFrom};
+use super::vertex::is_colinear;
+use polygon::position::Position;
+
+// A stretch of the ring: where it starts, and how many edges it has.
+pub struct Run {
+    pub from: Position,
+    pub edges: u16,
+}
+
+// Back from a position to a corner. A walk of as many steps as there are points has met one.
+fn run_back(x: &[i32], y: &[i32], ring: &[u16], start: Position) -> Position
+    requires { ⌜ RingOver (start .size) (now x) (now y) (now ring) × (start .id .0 < start .size) ⌝ }
+    ensures { λ r. ⌜ r ≡ position (start .size) (runBack (start .size) (points (now (x .entry)) (now (y .entry))) (start .size) (now (ring .entry)) (start .id .0)) ⌝ }
+{
+    let mut at = start;
+    let mut left = start.size;
+    while left > 0 {
+        if !is_colinear(x, y, ring, at) {
+            return at;
+        }
+        at = at.prev();
+        left -= 1;
+    }
+    at
+}
+
+// On from a position to a corner.
+fn run_on(x: &[i32], y: &[i32], ring: &[u16], start: Position) -> Position
+    requires { ⌜ RingOver (start .size) (now x) (now y) (now ring) × (start .id .0 < start .size) ⌝ }
+    ensures { λ r. ⌜ r ≡ position (start .size) (runOn (start .size) (points (now (x .entry)) (now (y .entry))) (start .size) (now (ring .entry)) (start .id .0)) ⌝ }
+{
+    let mut at = start;
+    let mut left = start.size;
+    while left > 0 {
+        if !is_colinear(x, y, ring, at) {
+            return at;
+        }
+        at = at.next();
+        left -= 1;
+    }
+    at
+}
+
+// How many places on from one position is another.
+fn distance(from: Position, to: Position) -> u16
+    requires { ⌜ (from .id .0 < from .size) × (to .id .0 < from .size) ⌝ }
+    ensures { λ r. ⌜ r ≡ dist (from .size) (from .id .0) (to .id .0) ⌝ }
+{
+    let p = from.id.0;
+    let i = to.id.0;
+    if p <= i { i - p } else { i + (from.size - p) }
+}
+
+// The run of the edge that starts at a position.
+// For example, in a ring that bends at b and e only:
+//    a                    f
+//     \- b - c - d -> e -/
+// the run of c is that from b to e.
+pub fn linear_extremes(x: &[i32], y: &[i32], ring: &[u16], at: Position) -> Run
+    requires { ⌜ RingOver (at .size) (now x) (now y) (now ring) × (at .id .0 < at .size) ⌝ }
+    ensures { λ r. ⌜ r ≡ runFrom (at .size) (points (now (x .entry)) (now (y .entry))) (now (ring .entry)) (at .id .0) ⌝ }
+{
+    let min = run_back(x, y, ring, at);
+    let max = run_on(x, y, ring, at.next());
+    Run {
+        from: min,
+        edges: distance(min, max),
+    }
+}

@@ -1,0 +1,6 @@
+// Which move a recorded crossing calls for, and the checks of a start: what of two_opt.rs reads the points and the ring, and not the records.
+pub mod checks;
+pub mod extremes;
+pub mod plan;
+pub mod search;
+pub mod vertex;

@@ -1,0 +1,89 @@
+// What stands at a ring position: how the ring turns there, and whether it is a kink (polygon.rs, `Cursor`).
+ghost use mathlib.Core.Path.{_≡_};
+ghost use Prim.Native.Nat.{_<_};
+ghost use Rattle.geometry.specs.Lent.{points};
+ghost use Rattle.polygon.specs.Ring.{IsRing, at as entry, next, prev};
+ghost use Rattle.machine.specs.Board.{turnAt, straightLine, kinkAt};
+ghost use Rattle.machine.specs.Search.{heldAt, kinkIn};
+ghost use Rattle.moves.specs.Walk.{RingOver, Both};
+use geometry::line_segment::inside_at;
+use geometry::orientation::turn_at;
+use polygon::polygon::position_to_point_id;
+use polygon::position::Position;
+
+// The number of the point at a position, with which the coordinates are indexed.
+pub fn number_at(ring: &[u16], at: Position) -> usize
+    requires { ⌜ IsRing (at .size) (now ring) × (at .id .0 < at .size) ⌝ }
+    ensures { λ r. ⌜ r ≡ entry (now (ring .entry)) (at .id .0) ⌝ }
+{
+    let id = at.id;
+    position_to_point_id(ring, id).0 as usize
+}
+
+// That of the point before it.
+fn number_before(ring: &[u16], at: Position) -> usize
+    requires { ⌜ IsRing (at .size) (now ring) × (at .id .0 < at .size) ⌝ }
+    ensures { λ r. ⌜ r ≡ entry (now (ring .entry)) (prev (at .size) (at .id .0)) ⌝ }
+{
+    number_at(ring, at.prev())
+}
+
+// That of the point after it.
+pub fn number_after(ring: &[u16], at: Position) -> usize
+    requires { ⌜ IsRing (at .size) (now ring) × (at .id .0 < at .size) ⌝ }
+    ensures { λ r. ⌜ r ≡ entry (now (ring .entry)) (next (at .size) (at .id .0)) ⌝ }
+{
+    number_at(ring, at.next())
+}
+
+// The turn at a position: of the point before it, itself and the point after it.
+pub fn orientation(x: &[i32], y: &[i32], ring: &[u16], at: Position) -> i64
+    requires { ⌜ RingOver (at .size) (now x) (now y) (now ring) × (at .id .0 < at .size) ⌝ }
+    ensures { λ r. ⌜ r ≡ turnAt (at .size) (points (now (x .entry)) (now (y .entry))) (now (ring .entry)) (at .id .0) ⌝ }
+{
+    let before = number_before(ring, at);
+    let here = number_at(ring, at);
+    let after = number_after(ring, at);
+    turn_at(x, y, before, here, after)
+}
+
+// Collinear with its neighbours. A position that is not is a corner.
+pub fn is_colinear(x: &[i32], y: &[i32], ring: &[u16], at: Position) -> bool
+    requires { ⌜ RingOver (at .size) (now x) (now y) (now ring) × (at .id .0 < at .size) ⌝ }
+    ensures { λ r. ⌜ r ≡ straightLine (at .size) (points (now (x .entry)) (now (y .entry))) (now (ring .entry)) (at .id .0) ⌝ }
+{
+    orientation(x, y, ring, at) == 0
+}
+
+// A kink would shorten the loop if it were taken out: a corner or a turning back. It is not strictly between its neighbours on a line.
+fn is_kink(x: &[i32], y: &[i32], ring: &[u16], at: Position) -> bool
+    requires { ⌜ RingOver (at .size) (now x) (now y) (now ring) × (at .id .0 < at .size) ⌝ }
+    ensures { λ r. ⌜ r ≡ kinkAt (at .size) (points (now (x .entry)) (now (y .entry))) (now (ring .entry)) (at .id .0) ⌝ }
+{
+    let before = number_before(ring, at);
+    let after = number_after(ring, at);
+    let here = number_at(ring, at);
+    !inside_at(x, y, before, after, here)
+}
+
+// The edge that starts at `edge` holds the point at `kink` strictly inside.
+fn holds(x: &[i32], y: &[i32], ring: &[u16], edge: Position, kink: Position) -> bool
+    requires { ⌜ RingOver (edge .size) (now x) (now y) (now ring) × Both edge kink ⌝ }
+    ensures { λ r. ⌜ r ≡ heldAt (edge .size) (points (now (x .entry)) (now (y .entry))) (now (ring .entry)) (kink .id .0) (edge .id .0) ⌝ }
+{
+    let start = number_at(ring, edge);
+    let end = number_after(ring, edge);
+    let point = number_at(ring, kink);
+    inside_at(x, y, start, end, point)
+}
+
+// That point is a kink, too. The holding is asked first: it seldom holds.
+pub fn is_mergable(x: &[i32], y: &[i32], ring: &[u16], edge: Position, kink: Position) -> bool
+    requires { ⌜ RingOver (edge .size) (now x) (now y) (now ring) × Both edge kink ⌝ }
+    ensures { λ r. ⌜ r ≡ kinkIn (edge .size) (points (now (x .entry)) (now (y .entry))) (now (ring .entry)) (kink .id .0) (edge .id .0) ⌝ }
+{
+    if !holds(x, y, ring, edge, kink) {
+        return false;
+    }
+    is_kink(x, y, ring, kink)
+}
