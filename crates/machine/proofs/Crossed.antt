@@ -20,7 +20,7 @@ use Rattle.algebra.specs.Cases.{T-is, and-left, and-right, both, true-or-false,
 use Rattle.polygon.specs.Ring.{next}
 use Rattle.machine.specs.Board.{ptAt}
 use Rattle.geometry.proofs.Crossing.{a-b, a-b', a'-b, laid-apart}
-use Rattle.polygon.proofs.Plans.{Crossed}
+use Rattle.polygon.specs.Change.{Crossed}
 
 module _ (n : ℕ) (pt : ℕ → Point) (r : List ℕ) (a b : ℕ) (la : a < n) (lb : b < n) (nf : flat n pt r a b ≡ false)
     (m : meets (ptAt pt r a) (ptAt pt r (next n a)) (ptAt pt r b) (ptAt pt r (next n b)) ≡ true) where

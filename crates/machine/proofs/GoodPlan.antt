@@ -7,7 +7,7 @@ use Prim.Native.Nat.{ℕ, zero, suc, _+_, _≤_, _<_}
 use native.Mathlib.Omega.{arith}
 use Rattle.geometry.specs.Plane.{Point}
 use Rattle.index_edge.specs.Edge.{Edge, edge, eqE, ltE, memberE}
-use Rattle.polygon.specs.Change.{Plan, byHoist, cut, lay, turned}
+use Rattle.polygon.specs.Change.{Fits, Plan, byHoist, cut, lay, turned}
 use Rattle.algebra.specs.Ranges.{upFrom}
 use Rattle.polygon.specs.Ring.{next, prev, at, IsRing}
 use Rattle.polygon.specs.Edges.{edgeAt, edges, direct}
@@ -19,7 +19,7 @@ use Rattle.polygon.proofs.Positions.{next-lt, next-not}
 use Rattle.index_edge.proofs.Edges.{eqE-true, eqE-false, member-cases, not-head, not-tail, not-member, eqE-of, ltE-diff}
 use Rattle.polygon.proofs.RingEdges.{edges-differ, in-table, member-edge}
 use Rattle.polygon.proofs.LaidEdges.{next-inj, uncross-lay-differ, hoist-lay-12, hoist-lay-13, hoist-lay-23}
-use Rattle.polygon.proofs.Plans.{Fits, turned-ring, turned-edges, lay-cut}
+use Rattle.polygon.proofs.Plans.{turned-ring, turned-edges, lay-cut}
 use Rattle.machine.proofs.EdgesMeet.{meetE-comm}
 use Rattle.machine.proofs.Planned.{Works, uncrosses, hoists, plan-of}
 use Rattle.intersection_set.proofs.Records.{Once}
@@ -158,6 +158,9 @@ module _ (n : ℕ) (pt : ℕ → Point) (board : Board n pt) where
           plan-of n pt (board .three) (board .distinct) (board .not-line) r ring a b (member-edge n r a (q .first)) (member-edge n r b (q .second))
           (λ e. never (eqE a b) (eqE-of a b e) (ltE-diff a b (q .in-order)))
           (q .meeting)
+
+      pub plan-fits : Fits n (planAt n pt r (direct n r a) (direct n r b))
+      plan-fits = works-fits (planAt n pt r (direct n r a) (direct n r b)) plan-works
 
       pub good-plan : GoodPlan n pt r (planAt n pt r (direct n r a) (direct n r b))
       good-plan = works-good (planAt n pt r (direct n r a) (direct n r b)) plan-works

@@ -18,7 +18,7 @@ use Rattle.machine.proofs.Descent.{fore, tail, tail-fore, descend}
 use Rattle.machine.proofs.Runs.{Straight, Corner, OnL, line-on, line-back, straight-if, dist-pos, run-of}
 use Rattle.machine.proofs.SearchNone.{searchEdges-found, In, in-left, in-right, stretch-in, searchEdges-none}
 use Rattle.machine.proofs.SearchFits.{runBack-lt, runOn-lt, kinkAndEdge-fine}
-use Rattle.polygon.proofs.Plans.{Hung}
+use Rattle.polygon.specs.Change.{Hung}
 
 -- the position of the edge whose front end is p
 abbrev pub ed : ℕ → Bool → ℕ → ℕ

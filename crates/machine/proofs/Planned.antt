@@ -9,14 +9,13 @@ use Rattle.geometry.specs.Plane.{Point, ltP}
 use Rattle.geometry.specs.Segment.{inside}
 use Rattle.index_edge.specs.Edge.{Edge, edge}
 use Rattle.polygon.specs.Edges.{edgeAt, direct, IsEdge}
-use Rattle.polygon.specs.Change.{Plan, uncross, hoist}
+use Rattle.polygon.specs.Change.{Hung, Crossed, Plan, uncross, hoist}
 use Rattle.polygon.specs.Ring.{next, at, IsRing}
 use Rattle.machine.specs.Board.{ptAt, kinkAt, meetE, Distinct, AllOnLine}
 use Rattle.machine.specs.Search.{flat, planAt}
 use Rattle.algebra.specs.Cases.{both, true-or-false}
 use Rattle.polygon.proofs.RingEdges.{edges-differ}
 use Rattle.polygon.proofs.Index.{direct-edge}
-use Rattle.polygon.proofs.Plans.{Hung, Crossed}
 use Rattle.machine.proofs.Runs.{Corner}
 use Rattle.machine.proofs.Corners.{ring-apart, has-corner}
 use Rattle.machine.proofs.Crossed.{crossed, uncrossed}

@@ -11,7 +11,7 @@ use Rattle.polygon.specs.Ring.{next, prev, dist, at, stretch}
 use Rattle.machine.specs.Board.{ptAt, kinkAt, straightLine}
 use Rattle.algebra.specs.Cases.{both, true-or-false, and-left, and-right}
 use Rattle.polygon.proofs.Positions.{next-lt, prev-lt}
-use Rattle.polygon.proofs.Plans.{Hung}
+use Rattle.polygon.specs.Change.{Hung}
 use Rattle.geometry.proofs.Points.{ltP-irrefl}
 
 -- ---- a point strictly inside a segment is neither end

@@ -2,9 +2,8 @@
 use mathlib.Core.Path.{_≡_, refl}
 use mathlib.Core.Bool.{true, false, not, _&&_, _||_}
 use mathlib.Core.List.{List}
-use mathlib.Core.Logic.{_≢_}
-use Prim.Native.Nat.{ℕ, _≤_, _<_}
-use Rattle.polygon.specs.Change.{Plan, stay, uncross, hoist, cut, lay, turned}
+use Prim.Native.Nat.{ℕ, _≤_}
+use Rattle.polygon.specs.Change.{Plan, stay, uncross, hoist, cut, lay, turned, Fits}
 use Rattle.index_edge.specs.Edge.{Edge, memberE}
 use Rattle.polygon.specs.Ring.{next, IsRing}
 use Rattle.polygon.specs.Edges.{edges}
@@ -14,25 +13,6 @@ use Rattle.polygon.proofs.RingEdges.{reversed-ring, joined-ring}
 use Rattle.polygon.proofs.Uncrossing.{uncross-edges}
 use Rattle.polygon.proofs.Hoisting.{hoist-edges}
 use Rattle.polygon.proofs.LaidEdges.{uncross-lay-new, hoist-lay-cut}
-
--- what a plan asks of its positions
-pub record Crossed (n a b : ℕ) : Type 0 where
-  pub la : a < n
-  pub lb : b < n
-  pub ab : a ≢ b
-  pub not-on : next n a ≢ b
-  pub not-back : next n b ≢ a
-
-pub record Hung (n k p : ℕ) : Type 0 where
-  pub lk : k < n
-  pub lp : p < n
-  pub kp : k ≢ p
-  pub not-on : k ≢ next n p
-
-abbrev pub Fits : ℕ → Plan → Type 0
-Fits n stay = Unit {0}
-Fits n (uncross a b) = Crossed n a b
-Fits n (hoist k p) = Hung n k p
 
 pub turned-ring : (n : ℕ) (m : Plan) (r : List ℕ) → Fits n m → IsRing n r → IsRing n (turned n m r)
 turned-ring n stay r w ring = ring

@@ -1,7 +1,8 @@
 -- What a move does to the ring: the edges that it cuts, those that it lays, and the ring after it.
 use mathlib.Core.Bool.{Bool, true, false}
 use mathlib.Core.List.{List, [], _∷_}
-use Prim.Native.Nat.{ℕ}
+use mathlib.Core.Logic.{_≢_}
+use Prim.Native.Nat.{ℕ, _<_}
 use Rattle.index_edge.specs.Edge.{Edge, edge}
 use Rattle.polygon.specs.Ring.{next, prev, at, reversed, joined}
 use Rattle.polygon.specs.Edges.{edgeAt}
@@ -36,3 +37,24 @@ abbrev pub turned : ℕ → Plan → List ℕ → List ℕ
 turned n stay r = r
 turned n (uncross a b) r = reversed n r (next n a) b
 turned n (hoist k p) r = joined n r p k
+
+-- ---- what a plan asks of its positions
+-- two edges that are no neighbours
+pub record Crossed (n a b : ℕ) : Type 0 where
+  pub la : a < n
+  pub lb : b < n
+  pub ab : a ≢ b
+  pub not-on : next n a ≢ b
+  pub not-back : next n b ≢ a
+
+-- a point that is no end of the edge
+pub record Hung (n k p : ℕ) : Type 0 where
+  pub lk : k < n
+  pub lp : p < n
+  pub kp : k ≢ p
+  pub not-on : k ≢ next n p
+
+abbrev pub Fits : ℕ → Plan → Type 0
+Fits n stay = Unit {0}
+Fits n (uncross a b) = Crossed n a b
+Fits n (hoist k p) = Hung n k p

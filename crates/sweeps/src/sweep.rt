@@ -1,0 +1,190 @@
+// Records come and go: one edge against the ring, the start, and what a move removes and inserts.
+//
+// A pool's buffers are twelve lent slices. What they hold is a store of records (`Holds`), and nothing past n×(n-1) is written (`Beyond`).
+ghost use mathlib.Core.Path.{_≡_};
+ghost use mathlib.Core.Bool.{Bool, true, false};
+ghost use Prim.Native.Nat.{ℕ, _-_, _*_, _≤_, _<_};
+ghost use lib.ListN.{length};
+ghost use Rattle.geometry.specs.Lent.{points, Lent};
+ghost use Rattle.index_edge.specs.Number.{edgeOf};
+ghost use Rattle.polygon.specs.Ring.{IsRing};
+ghost use Rattle.polygon.specs.Edges.{edges};
+ghost use Rattle.intersection_set.specs.Store.{Store, removes};
+ghost use Rattle.intersection_set.specs.Pool.{poolOf};
+ghost use Rattle.intersection_set.specs.Within.{Proper};
+ghost use Rattle.intersection_set.specs.Holds.{Holds, Beyond};
+ghost use Rattle.sweeps.specs.Sweep.{sweepOver, Fits};
+ghost use Rattle.sweeps.specs.Few.{fewOf, source, sweepsOver, AllProper, FitAll};
+use super::edges::candidate_at;
+use super::few::Few;
+use super::few::source_at;
+use super::few::source_len;
+use index_edge::IndexEdge;
+use intersection_set::intersection_set::push_if;
+use intersection_set::intersection_set::remove_all;
+use intersection_set::utils::Counts;
+
+// Every edge of the ring that meets an edge is recorded with it: in a move every other one, at the start every greater one.
+pub fn sweep(
+    moves: bool,
+    n: usize,
+    edge: IndexEdge,
+    x: &[i32],
+    y: &[i32],
+    ring: &[u16],
+    c: Counts,
+    heads: &mut [u16],
+    min0: &mut [u16],
+    max0: &mut [u16],
+    next0: &mut [u16],
+    prev0: &mut [u16],
+    min1: &mut [u16],
+    max1: &mut [u16],
+    next1: &mut [u16],
+    prev1: &mut [u16],
+    dense: &mut [u16],
+    reverse: &mut [u16],
+    free: &[u16],
+) -> Counts
+    requires { ⌜ Lent n (now x) (now y) × IsRing n (now ring) × (2 ≤ n) × Proper n (edgeOf edge) × ((s : Store) × Holds n (poolOf (now heads) (now min0) (now max0) (now next0) (now prev0) (now min1) (now max1) (now next1) (now prev1) (now dense) (now reverse) (now free) c) s × Fits n (points (now x) (now y)) (now ring) moves (edgeOf edge) s) ⌝ }
+    ensures { λ r. ⌜ ((s : Store) → Holds n (poolOf (now (heads .entry)) (now (min0 .entry)) (now (max0 .entry)) (now (next0 .entry)) (now (prev0 .entry)) (now (min1 .entry)) (now (max1 .entry)) (now (next1 .entry)) (now (prev1 .entry)) (now (dense .entry)) (now (reverse .entry)) (now (free .entry)) c) s → Fits n (points (now (x .entry)) (now (y .entry))) (now (ring .entry)) moves (edgeOf edge) s
+        → Holds n (poolOf (now (heads .exit)) (now (min0 .exit)) (now (max0 .exit)) (now (next0 .exit)) (now (prev0 .exit)) (now (min1 .exit)) (now (max1 .exit)) (now (next1 .exit)) (now (prev1 .exit)) (now (dense .exit)) (now (reverse .exit)) (now (free .entry)) r) (sweepOver (points (now (x .entry)) (now (y .entry))) moves (edgeOf edge) (edges n (now (ring .entry))) s))
+        × Beyond (n * (n - 1)) (poolOf (now (heads .exit)) (now (min0 .exit)) (now (max0 .exit)) (now (next0 .exit)) (now (prev0 .exit)) (now (min1 .exit)) (now (max1 .exit)) (now (next1 .exit)) (now (prev1 .exit)) (now (dense .exit)) (now (reverse .exit)) (now (free .entry)) r) (poolOf (now (heads .entry)) (now (min0 .entry)) (now (max0 .entry)) (now (next0 .entry)) (now (prev0 .entry)) (now (min1 .entry)) (now (max1 .entry)) (now (next1 .entry)) (now (prev1 .entry)) (now (dense .entry)) (now (reverse .entry)) (now (free .entry)) c) ⌝ }
+{
+    let mut k = c;
+    let mut i: usize = 0;
+    while i < n {
+        let pair = candidate_at(moves, n, x, y, ring, edge, i);
+        let first = pair.first;
+        let second = pair.second;
+        k = push_if(
+            pair.ok,
+            n,
+            first,
+            second,
+            k,
+            heads,
+            min0,
+            max0,
+            next0,
+            prev0,
+            min1,
+            max1,
+            next1,
+            prev1,
+            dense,
+            reverse,
+            free,
+        );
+        i += 1;
+    }
+    k
+}
+
+// A sweep for each of some edges in order: at the start for each edge of the ring, in a move for each new one.
+pub fn sweeps(
+    moves: bool,
+    n: usize,
+    inserted: Few,
+    x: &[i32],
+    y: &[i32],
+    ring: &[u16],
+    c: Counts,
+    heads: &mut [u16],
+    min0: &mut [u16],
+    max0: &mut [u16],
+    next0: &mut [u16],
+    prev0: &mut [u16],
+    min1: &mut [u16],
+    max1: &mut [u16],
+    next1: &mut [u16],
+    prev1: &mut [u16],
+    dense: &mut [u16],
+    reverse: &mut [u16],
+    free: &[u16],
+) -> Counts
+    requires { ⌜ Lent n (now x) (now y) × IsRing n (now ring) × (2 ≤ n) × (inserted .count ≤ 3) × AllProper n (source moves n (now ring) inserted) × ((s : Store) × Holds n (poolOf (now heads) (now min0) (now max0) (now next0) (now prev0) (now min1) (now max1) (now next1) (now prev1) (now dense) (now reverse) (now free) c) s × FitAll n (points (now x) (now y)) (now ring) moves (source moves n (now ring) inserted) s) ⌝ }
+    ensures { λ r. ⌜ ((s : Store) → Holds n (poolOf (now (heads .entry)) (now (min0 .entry)) (now (max0 .entry)) (now (next0 .entry)) (now (prev0 .entry)) (now (min1 .entry)) (now (max1 .entry)) (now (next1 .entry)) (now (prev1 .entry)) (now (dense .entry)) (now (reverse .entry)) (now (free .entry)) c) s → FitAll n (points (now (x .entry)) (now (y .entry))) (now (ring .entry)) moves (source moves n (now (ring .entry)) inserted) s
+        → Holds n (poolOf (now (heads .exit)) (now (min0 .exit)) (now (max0 .exit)) (now (next0 .exit)) (now (prev0 .exit)) (now (min1 .exit)) (now (max1 .exit)) (now (next1 .exit)) (now (prev1 .exit)) (now (dense .exit)) (now (reverse .exit)) (now (free .entry)) r) (sweepsOver (points (now (x .entry)) (now (y .entry))) moves (edges n (now (ring .entry))) (source moves n (now (ring .entry)) inserted) s))
+        × Beyond (n * (n - 1)) (poolOf (now (heads .exit)) (now (min0 .exit)) (now (max0 .exit)) (now (next0 .exit)) (now (prev0 .exit)) (now (min1 .exit)) (now (max1 .exit)) (now (next1 .exit)) (now (prev1 .exit)) (now (dense .exit)) (now (reverse .exit)) (now (free .entry)) r) (poolOf (now (heads .entry)) (now (min0 .entry)) (now (max0 .entry)) (now (next0 .entry)) (now (prev0 .entry)) (now (min1 .entry)) (now (max1 .entry)) (now (next1 .entry)) (now (prev1 .entry)) (now (dense .entry)) (now (reverse .entry)) (now (free .entry)) c) ⌝ }
+{
+    let m = source_len(moves, n, inserted);
+    let mut k = c;
+    let mut i: usize = 0;
+    while i < m {
+        let edge = source_at(moves, n, ring, inserted, i);
+        k = sweep(
+            moves,
+            n,
+            edge,
+            x,
+            y,
+            ring,
+            k,
+            heads,
+            min0,
+            max0,
+            next0,
+            prev0,
+            min1,
+            max1,
+            next1,
+            prev1,
+            dense,
+            reverse,
+            free,
+        );
+        i += 1;
+    }
+    k
+}
+
+// Removes all records of each of some edges in order.
+pub fn remove_edges(
+    n: usize,
+    removed: Few,
+    c: Counts,
+    heads: &mut [u16],
+    min0: &[u16],
+    max0: &[u16],
+    next0: &mut [u16],
+    prev0: &mut [u16],
+    min1: &[u16],
+    max1: &[u16],
+    next1: &mut [u16],
+    prev1: &mut [u16],
+    dense: &mut [u16],
+    reverse: &mut [u16],
+    free: &mut [u16],
+) -> Counts
+    requires { ⌜ (removed .count ≤ 3) × AllProper n (fewOf removed) × ((s : Store) × Holds n (poolOf (now heads) (now min0) (now max0) (now next0) (now prev0) (now min1) (now max1) (now next1) (now prev1) (now dense) (now reverse) (now free) c) s) ⌝ }
+    ensures { λ r. ⌜ ((s : Store) → Holds n (poolOf (now (heads .entry)) (now (min0 .entry)) (now (max0 .entry)) (now (next0 .entry)) (now (prev0 .entry)) (now (min1 .entry)) (now (max1 .entry)) (now (next1 .entry)) (now (prev1 .entry)) (now (dense .entry)) (now (reverse .entry)) (now (free .entry)) c) s
+        → Holds n (poolOf (now (heads .exit)) (now (min0 .entry)) (now (max0 .entry)) (now (next0 .exit)) (now (prev0 .exit)) (now (min1 .entry)) (now (max1 .entry)) (now (next1 .exit)) (now (prev1 .exit)) (now (dense .exit)) (now (reverse .exit)) (now (free .exit)) r) (removes (fewOf removed) s))
+        × Beyond (n * (n - 1)) (poolOf (now (heads .exit)) (now (min0 .entry)) (now (max0 .entry)) (now (next0 .exit)) (now (prev0 .exit)) (now (min1 .entry)) (now (max1 .entry)) (now (next1 .exit)) (now (prev1 .exit)) (now (dense .exit)) (now (reverse .exit)) (now (free .exit)) r) (poolOf (now (heads .entry)) (now (min0 .entry)) (now (max0 .entry)) (now (next0 .entry)) (now (prev0 .entry)) (now (min1 .entry)) (now (max1 .entry)) (now (next1 .entry)) (now (prev1 .entry)) (now (dense .entry)) (now (reverse .entry)) (now (free .entry)) c) ⌝ }
+{
+    let m = removed.count as usize;
+    let mut k = c;
+    let mut i: usize = 0;
+    while i < m {
+        let edge = removed.nth(i);
+        k = remove_all(
+            n,
+            edge,
+            k,
+            heads,
+            min0,
+            max0,
+            next0,
+            prev0,
+            min1,
+            max1,
+            next1,
+            prev1,
+            dense,
+            reverse,
+            free,
+        );
+        i += 1;
+    }
+    k
+}
