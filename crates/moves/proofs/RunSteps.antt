@@ -55,7 +55,7 @@ module _ {pt : ℕ → Point} {r : List ℕ} {n : ℕ} {step : ℕ → ℕ → �
     pub run-ends : left ≤ 0 → p ≡ position n end
     run-ends h = there (ap (λ k. go k (p .id .0)) (let z : left ≡ 0 = omega arith in z) ∙ s .ends (p .id .0))
 
--- ---- the run of the edge at a, from the corner behind it to the corner ahead
+-- ---- the run of the edge at a, from the corner back of it to the corner ahead
 module _ (pt : ℕ → Point) (r : List ℕ) {n a : ℕ} (l : a < n) where
   abbrev corner-back : ℕ
   corner-back = runBack n pt n r a
@@ -72,7 +72,7 @@ module _ (pt : ℕ → Point) (r : List ℕ) {n a : ℕ} (l : a < n) where
   run-in : {s : Run} → s ≡ runFrom n pt r a → RunIn n s
   run-in e = subst⁻¹ (RunIn n) e (record { size = refl; below = back-lt; few = dist-lt n corner-back back-lt corner-on on-lt })
 
-  -- the corners as the code finds them, the second from the position behind a
+  -- the corners as the code finds them, the second from the position after a
   module _ {min m max : Position} (e : min ≡ position n corner-back) (f : m ≡ position n (next n a)) (g : max ≡ position (m .size) (runOn (m .size) pt (m .size) r (m .id .0))) where
     max-is : max ≡ position n corner-on
     max-is = g ∙ ap (λ (m : Position). position (m .size) (runOn (m .size) pt (m .size) r (m .id .0))) f

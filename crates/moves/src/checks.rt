@@ -18,6 +18,7 @@ use geometry::point::less_at;
 use polygon::position::Position;
 use polygon::position::PositionId;
 
+// Point i is within the limits.
 fn near_at(x: &[i32], y: &[i32], i: usize) -> bool
     requires { ⌜ (i < length (now x)) × (i < length (now y)) ⌝ }
     ensures { λ r. ⌜ r ≡ nearP (points (now (x .entry)) (now (y .entry)) i) ⌝ }
@@ -70,6 +71,7 @@ pub fn none_alike(n: usize, x: &[i32], y: &[i32]) -> bool
     true
 }
 
+// Position i of a ring of n points.
 fn position_at(n: usize, i: usize) -> Position
     requires { ⌜ (n ≤ 256) × (i < n) ⌝ }
     ensures { λ r. ⌜ r ≡ position n i ⌝ }
@@ -80,6 +82,7 @@ fn position_at(n: usize, i: usize) -> Position
     }
 }
 
+// The vertex at position i is collinear with its neighbours.
 fn colinear_at(n: usize, x: &[i32], y: &[i32], ring: &[u16], i: usize) -> bool
     requires { ⌜ RingOver n (now x) (now y) (now ring) × (i < n) ⌝ }
     ensures { λ r. ⌜ r ≡ straightLine n (points (now (x .entry)) (now (y .entry))) (now (ring .entry)) i ⌝ }
