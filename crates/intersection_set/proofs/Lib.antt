@@ -15,3 +15,5 @@ pub mod Pushing
 pub mod Removing
 pub mod Starting
 pub mod Picking
+pub mod Showing
+pub mod StoreFacts

@@ -1,6 +1,6 @@
 -- What a store says of each edge's list and of each slot: heads, links and places, by computation.
 use mathlib.Core.Bool.{cond}
-use mathlib.Core.List.{List, [], _∷_, map}
+use mathlib.Core.List.{List, [], _∷_, _++_, map}
 use Prim.Native.Nat.{ℕ, suc, _+_, _-_, _*_, _/_, _%_}
 use lib.Dec.{eqb, ltb}
 use Rattle.algebra.specs.Ranges.{upFrom}
@@ -57,6 +57,11 @@ placeFrom i x (r ∷ d) = cond (eqb x (r .slot)) i (placeFrom (suc i) x d)
 
 abbrev pub reverseOf : ℕ → Store → ℕ
 reverseOf x s = placeFrom 0 x (s .dense)
+
+-- ---- the free slots as a stack: the one freed last at the end
+abbrev pub stackOf : List ℕ → List ℕ
+stackOf [] = []
+stackOf (a ∷ l) = stackOf l ++ (a ∷ [])
 
 -- ---- the heads in full
 -- An edge's head stands at max + n×min.
