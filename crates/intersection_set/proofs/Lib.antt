@@ -5,6 +5,7 @@ pub mod Chains
 pub mod ByAge
 pub mod Draining
 pub mod Filling
+pub mod HeadPlaces
 pub mod Lengths
 pub mod ReadOff
 pub mod Alike

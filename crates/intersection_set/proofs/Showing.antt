@@ -1,24 +1,23 @@
 -- Buffers that hold a store show it, by equations.
 use mathlib.Core.Path.{_≡_, refl, sym, ap, _∙_}
 use mathlib.Core.Logic.{_≢_}
-use mathlib.Core.Bool.{Bool, true, false, _&&_, cond}
+use mathlib.Core.Bool.{true, false, _&&_, cond}
 use mathlib.Core.List.{List, [], _∷_, _++_, map}
 use Prim.Native.Nat.{ℕ, zero, suc, _+_, _-_, _*_, _/_, _%_, _≤_, _<_}
 use native.Mathlib.Omega.{arith}
 use native.Mathlib.Nat.{mod-lt, div-add-mod', div-lt-iff-lt-mul, mul-comm}
-use borrow.Author.Tests.{ltb-true, ltb-false, lt-ltb, eq-eqb, ne-eqb}
-use lib.Dec.{eqb, ltb}
+use borrow.Author.Tests.{ltb-false, eq-eqb, ne-eqb}
+use lib.Dec.{ltb}
 use lib.ListN.{length, getD, take, length-map, List·getD-map}
 use lib.Seq.{getD-take, length-take-le, take-suc, ext-getD}
 use Rattle.algebra.specs.Cases.{both, true-or-false}
-use Rattle.algebra.specs.Counting.{countP, count-length, count-zero}
+use Rattle.algebra.specs.Counting.{count-length, count-zero}
 use Rattle.algebra.specs.Ranges.{upFrom, upFrom-length, table-at}
-use Rattle.index_edge.specs.Edge.{Edge, eqE}
-use Rattle.index_edge.proofs.Edges.{eqE-true, eqE-false}
-use Rattle.intersection_set.specs.Store.{Rec, Store, noRec, names, grown}
+use Rattle.index_edge.specs.Edge.{Edge}
+use Rattle.index_edge.proofs.Edges.{eqE-false}
+use Rattle.intersection_set.specs.Store.{Rec, Store, noRec, names}
 use Rattle.intersection_set.specs.Lists.{none, slotOf, listOf, firstOr, headOf, placeFrom, reverseOf, stackOf, headPlace, pairAt, headsOf}
 use Rattle.intersection_set.specs.Pool.{Pool}
-use Rattle.intersection_set.specs.Within.{Proper}
 use Rattle.intersection_set.specs.Holds.{Each, Sound, Stack, Placed, Holds, Shows}
 use Rattle.intersection_set.proofs.Slots.{slots-differ}
 use Rattle.intersection_set.proofs.ByAge.{listOf-count}

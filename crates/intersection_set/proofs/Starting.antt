@@ -1,20 +1,20 @@
 -- The start: whatever the other buffers hold, once every head is none they hold the empty store.
-use mathlib.Core.Path.{_≡_, refl, ap, _∙_}
-use mathlib.Core.List.{List, []}
+use mathlib.Core.Path.{_≡_, ap, _∙_}
+use mathlib.Core.List.{List}
 use Prim.Native.Nat.{ℕ, _-_, _*_, _≤_}
 use native.Mathlib.Omega.{arith}
-use lib.ListN.{length, getD}
+use lib.ListN.{getD}
 use Rattle.intersection_set.specs.Store.{empty}
 use Rattle.intersection_set.specs.Lists.{headPlace}
-use Rattle.intersection_set.specs.Pool.{Pool, counted, fill}
+use Rattle.intersection_set.specs.Pool.{Pool, countsOf, fill}
 use Rattle.intersection_set.specs.Within.{Sized}
 use Rattle.intersection_set.specs.Holds.{Holds}
 use Rattle.intersection_set.specs.declared.utils.Counts.{Counts}
 use Rattle.intersection_set.proofs.Slots.{numbered-empty}
 use Rattle.intersection_set.proofs.Filling.{fill-at}
-use Rattle.intersection_set.proofs.Alike.{head-below}
+use Rattle.intersection_set.proofs.HeadPlaces.{head-below}
 
-pub holds-start : (n : ℕ) (p : Pool) (hs : List ℕ) → n ≤ 256 → Sized n p → p .links .heads ≡ fill (n * (n - 1)) hs → p .counts ≡ counted 0 0 0 → Holds n p empty
+pub holds-start : (n : ℕ) (p : Pool) (hs : List ℕ) → n ≤ 256 → Sized n p → p .links .heads ≡ fill (n * (n - 1)) hs → p .counts ≡ countsOf 0 0 0 → Holds n p empty
 holds-start n p hs small sizes filled none-yet =
     record {
       stored =

@@ -1,19 +1,19 @@
 -- What holds of every store that pushes and removals make: ages, slots, lists, and the removal of all of an edge.
-use mathlib.Core.Path.{_≡_, refl, sym, ap, subst, _∙_}
+use mathlib.Core.Path.{_≡_, refl, sym, ap, _∙_}
 use mathlib.Core.Logic.{_⊎_, inl, inr, _≢_}
-use mathlib.Core.Bool.{Bool, true, false, _&&_}
+use mathlib.Core.Bool.{true, _&&_}
 use mathlib.Core.List.{List, [], _∷_}
-use Prim.Native.Nat.{ℕ, suc, _+_, _-_, _*_, _≤_, _<_}
+use Prim.Native.Nat.{ℕ, suc, _-_, _*_, _≤_, _<_}
 use native.Mathlib.Omega.{arith}
-use borrow.Author.Tests.{eqb-true, eqb-false, eq-eqb, lt-ltb, ltb-true}
+use borrow.Author.Tests.{eqb-true, eq-eqb, lt-ltb}
 use lib.Dec.{eqb, ltb}
 use lib.ListN.{length, getD}
-use Rattle.algebra.specs.Cases.{both, true-or-false, eq-cases, and-left, and-right}
+use Rattle.algebra.specs.Cases.{both, eq-cases, and-left, and-right}
 use Rattle.algebra.specs.Counting.{one, countP, one-le, count-at, count-at-two, count-find, count-length, count-le, length-snoc}
 use Rattle.index_edge.specs.Edge.{Edge}
 use Rattle.intersection_set.specs.Store.{Rec, Store, Found, nothing, at-place, noRec, grown, push, recFor, slotFor, names, newestFrom, removeFound, removeAll}
 use Rattle.intersection_set.specs.Numbered.{Numbered}
-use Rattle.intersection_set.specs.Lists.{none, listOf, headOf}
+use Rattle.intersection_set.specs.Lists.{none, listOf}
 use Rattle.intersection_set.proofs.Records.{Newest, newest-is, removeAll-none}
 use Rattle.intersection_set.proofs.Slots.{swapRemove-length, slot-below, free-below, push-if-grows}
 use Rattle.intersection_set.proofs.Chains.{Falling, eqR, eqR-refl, eqR-true}
