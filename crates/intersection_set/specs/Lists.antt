@@ -27,7 +27,7 @@ slotOf r = r .slot
 abbrev pub slotsOf : Edge → Store → List ℕ
 slotsOf e s = map slotOf (listOf e (s .dense))
 
--- ---- head, next and previous, read off a list of slots; m stands for no slot
+-- ---- head, next and previous, read off a list of slots that ends in m
 abbrev pub firstOr : ℕ → List ℕ → ℕ
 firstOr m [] = m
 firstOr m (x ∷ l) = x
@@ -36,7 +36,7 @@ abbrev pub after : ℕ → ℕ → List ℕ → ℕ
 after m x [] = m
 after m x (y ∷ l) = cond (eqb x y) (firstOr m l) (after m x l)
 
--- p stands in front of the list
+-- of an x in the list; p stands in front of it
 abbrev pub before : ℕ → ℕ → List ℕ → ℕ
 before p x [] = p
 before p x (y ∷ l) = cond (eqb x y) p (before y x l)

@@ -1,7 +1,7 @@
 // Crossing records, each linked along its two edges (intersection_set.rs, `IndexIntersectionSet`).
 //
-// A record's fields are lent slices, indexed by its slot: for edge0 its vertices `min0` and `max0` and its links `next0` and
-// `prev0` along that edge's list, and the same for edge1. `heads` has each edge's newest record.
+// A record's fields are lent slices, indexed by its slot: of edge0 its vertex0 `min0`, its vertex1 `max0`, and its links `next0`
+// and `prev0` along that edge's list; of edge1 the same. `heads` has each edge's newest record.
 ghost use mathlib.Core.Path.{_≡_};
 ghost use mathlib.Core.Bool.{true, cond};
 ghost use Prim.Native.Nat.{ℕ, _-_, _*_, _<_, _≤_};
