@@ -3,7 +3,7 @@ use mathlib.Core.Path.{_≡_, refl, sym, ap, subst, _∙_}
 use mathlib.Core.Logic.{_≢_}
 use mathlib.Core.Bool.{Bool, true, false, _&&_, cond, and-true, or-true}
 use mathlib.Core.List.{List, [], _∷_, _++_, map}
-use Prim.Native.Nat.{ℕ, _+_, _-_, _≤_, _<_}
+use Prim.Native.Nat.{ℕ, _+_, _≤_, _<_}
 use native.Mathlib.Omega.{arith}
 use borrow.Author.Tests.{leb-false, eqb-true, lt-ltb, le-ltb, lt-leb, eq-eqb, ne-eqb}
 use lib.Dec.{eqb, leb, ltb}
@@ -110,7 +110,7 @@ module _ (none : ℕ) (d : List Rec) (k k' : Links) (g : Edge) where
         linked = rw h (linked-agree none (k .next g) (k .prev g) (k' .next g) (k' .prev g) (map slotOf (c .recs)) none (k .head g) n p (c .linked));
       }
 
-cond-fun : (b : Bool) (g h : Edge → ℕ → ℕ) (f : Edge) (y v : ℕ) → g f y ≡ v → h f y ≡ v → cond b g h f y ≡ v
+pub cond-fun : (b : Bool) (g h : Edge → ℕ → ℕ) (f : Edge) (y v : ℕ) → g f y ≡ v → h f y ≡ v → cond b g h f y ≡ v
 cond-fun true g h f y v p q = p
 cond-fun false g h f y v p q = q
 
@@ -312,6 +312,17 @@ head-newest none d k e c = go (newestFrom e 0 d) (newest-is e 0 d) (c .recs) (c 
         )))
         (λ v. absurd (omega (arith, t .newest, same (λ x. ltb (r .age) (x .age)), ap one (lt-ltb (r .age) (y .age) (leb-false (y .age) (r .age) v))))))
 
+-- ---- a record is named by its two edges, whichever comes first
+pub names-first : (g : Edge) (r : Rec) → eqE g (r .e0) ≡ true → names g r ≡ true
+names-first g r h = rw h
+
+pub names-second : (g : Edge) (r : Rec) → eqE g (r .e1) ≡ true → names g r ≡ true
+names-second g r h = rw (h, or-true (eqE g (r .e0)))
+
+pub either : (t : Bool) (a b : Edge) (Q : Edge → Edge → Type 0) → Q a b → Q b a → Q (cond t a b) (cond t b a)
+either true a b Q p q = p
+either false a b Q p q = q
+
 -- ---- all the lists together, over the edges in play
 module _ (none : ℕ) (In : Edge → Type 0) where
   abbrev pub Rep : Store → Links → Type 0
@@ -322,12 +333,6 @@ module _ (none : ℕ) (In : Edge → Type 0) where
 
   abbrev pub removeLinks : Rec → Links → Links
   removeLinks r k = unlink none (r .e1) (r .slot) (unlink none (r .e0) (r .slot) k)
-
-  names-first : (g : Edge) (r : Rec) → eqE g (r .e0) ≡ true → names g r ≡ true
-  names-first g r h = rw h
-
-  names-second : (g : Edge) (r : Rec) → eqE g (r .e1) ≡ true → names g r ≡ true
-  names-second g r h = rw (h, or-true (eqE g (r .e0)))
 
   -- the three places of an edge: the record's first, its second, or neither
   three-ways : (r : Rec) (g : Edge) (Q : Edge → Type 0) → Q (r .e0) → Q (r .e1) → (eqE g (r .e0) ≡ false → eqE g (r .e1) ≡ false → Q g) → Q g
@@ -359,11 +364,7 @@ module _ (none : ℕ) (In : Edge → Type 0) where
         ap one (eq-eqb (r .slot) (r .slot) refl),
         one-le (ltb (r .slot) (grown (push a b s))) true (λ _. refl),
       ) in
-      rep-come s k r (either (ltE a b) (λ x y. eqE x y ≡ false) ab (eqE-sym b a ∙ ab)) (either (ltE a b) (λ x y. In x) ia ib) (either (ltE a b) (λ x y. In y) ib ia) pool room refl new rep
-    where
-      either : (t : Bool) (Q : Edge → Edge → Type 0) → Q a b → Q b a → Q (cond t a b) (cond t b a)
-      either true Q p q = p
-      either false Q p q = q
+      rep-come s k r (either (ltE a b) a b (λ x y. eqE x y ≡ false) ab (eqE-sym b a ∙ ab)) (either (ltE a b) a b (λ x y. In x) ia ib) (either (ltE a b) a b (λ x y. In y) ib ia) pool room refl new rep
 
   pub rep-remove : (s : Store) (k : Links) (j : ℕ) → j < length (s .dense) → eqE (getD (s .dense) j noRec .e0) (getD (s .dense) j noRec .e1) ≡ false → In (getD (s .dense) j noRec .e0) → In (getD (s .dense) j noRec .e1)
       → Numbered s → grown s ≤ none → Rep s k

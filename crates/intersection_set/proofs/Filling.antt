@@ -1,10 +1,10 @@
 -- The heads filled with none, from the first on.
 use mathlib.Core.Path.{_≡_, refl, ap, _∙_}
 use mathlib.Core.List.{List, _∷_, _++_}
-use Prim.Native.Nat.{ℕ, zero, suc, _+_, _≤_, _<_}
+use Prim.Native.Nat.{ℕ, zero, suc, _+_, _<_}
 use native.Mathlib.Numerals.{add-one}
 use native.Mathlib.Omega.{arith}
-use lib.ListN.{length, getD, set, drop, replicate, length-append, length-drop, length-replicate, getD-replicate, List·getD-append}
+use lib.ListN.{length, getD, set, drop, replicate, length-replicate, getD-replicate, List·getD-append}
 use lib.Seq.{drop-cons, drop-at, set-at}
 use Rattle.intersection_set.specs.Lists.{none}
 use Rattle.intersection_set.specs.Pool.{fill}

@@ -1,5 +1,5 @@
 -- Buffers that hold a store: what they say slot by slot, and that heads and links by equation are the same as linked lists.
-use mathlib.Core.Path.{_≡_, refl, sym, ap, subst, subst⁻¹, _∙_}
+use mathlib.Core.Path.{_≡_, refl, sym, ap, subst⁻¹, _∙_}
 use mathlib.Core.Logic.{_≢_}
 use mathlib.Core.Bool.{Bool, true, false, _&&_, _||_, cond, true≢false}
 use mathlib.Core.List.{List, [], _∷_, _++_, map}
@@ -16,17 +16,18 @@ use Rattle.index_edge.specs.Edge.{Edge, eqE}
 use Rattle.index_edge.proofs.Edges.{eqE-true, eqE-refl, eqE-sym, ltE-diff}
 use Rattle.intersection_set.specs.Store.{Rec, Store, noRec, swapRemove, names, grown}
 use Rattle.intersection_set.specs.Numbered.{Numbered}
-use Rattle.intersection_set.specs.Lists.{none, slotOf, listOf, slotsOf, firstOr, after, before, headOf, nextOf, prevOf}
+use Rattle.intersection_set.specs.Lists.{none, slotOf, listOf, slotsOf, nextOf, prevOf}
 use Rattle.intersection_set.specs.Pool as pool
 use Rattle.intersection_set.specs.Pool.{Edges, Ends, Pool, end0, end1}
-use Rattle.intersection_set.specs.Within.{Proper, Sized, Good}
-use Rattle.intersection_set.specs.Holds.{Each, Sound, HeldIn, LinkedIn, InOrder, Stack, Placed, Stored, Holds}
+use Rattle.intersection_set.specs.Within.{Good}
+use Rattle.intersection_set.specs.Holds.{Each, Sound, HeldIn, Stack, Placed, Stored, Holds}
 use Rattle.intersection_set.proofs.Slots.{slot-below, swapRemove-length}
 use Rattle.intersection_set.proofs.Linked.{OnceN, Linked, head-in, prev-in, next-in}
 use Rattle.intersection_set.proofs.Draining.{swap-other, swap-here}
-use Rattle.intersection_set.proofs.Chains.{Links, Chain, Rep, in-chain, map-app, chain-agree}
+use Rattle.intersection_set.proofs.Chains.{Links, Chain, Rep, names-first, names-second, in-chain, map-app, chain-agree}
 use Rattle.intersection_set.proofs.ByAge.{listOf-count, linked-is, chain-of}
 use Rattle.intersection_set.proofs.ReadOff.{In, linked-head, linked-next, linked-prev, linked-of}
+use Rattle.intersection_set.proofs.HeadPlaces.{placed}
 use Rattle.intersection_set.proofs.Alike.{Valid, Same}
 use Rattle.intersection_set.proofs.Views.{linkAt, view, At, Reach}
 use Rattle.intersection_set.proofs.Lengths.{cap-small}
@@ -49,17 +50,8 @@ each-remove Q d k h e j u =
     (λ v. subst⁻¹ Q (swap-other d k j h z (eqb-false j k v)) (e j (omega arith)))
 
 -- ---- what holds of a record
-pub placed : {n : ℕ} {e : Edge} → Proper n e → Placed n e
-placed h = (h .top, omega (arith, h .up, h .top))
-
 pub differ : {n : ℕ} {r : Rec} → Sound n r → eqE (r .e0) (r .e1) ≡ false
 differ {r} h = ltE-diff (r .e0) (r .e1) (h .ordered)
-
-pub names-first : (r : Rec) → names (r .e0) r ≡ true
-names-first r = rw (eqE-refl (r .e0))
-
-pub names-second : (r : Rec) → eqE (r .e0) (r .e1) ≡ false → names (r .e1) r ≡ true
-names-second r d = rw (eqE-sym (r .e1) (r .e0), d, eqE-refl (r .e1))
 
 -- ---- the free slots
 pub stack-set : (q : List ℕ) (i x : ℕ) (l : List ℕ) → length l ≤ i → Stack q l → Stack (set q i x) l
@@ -210,8 +202,8 @@ module _ (n : ℕ) (p : Pool) (s : Store) where
             let r : Rec = getD (s .dense) j noRec in
             let so : Sound n r = t .sound j i in
             let he : HeldIn (p .edges) r = t .held j i in
-            let in0 : In (r .slot) (slotsOf (r .e0) s) = slot-in-list s (r .e0) j i (names-first r) in
-            let in1 : In (r .slot) (slotsOf (r .e1) s) = slot-in-list s (r .e1) j i (names-second r (differ so)) in
+            let in0 : In (r .slot) (slotsOf (r .e0) s) = slot-in-list s (r .e0) j i (names-first (r .e0) r (eqE-refl (r .e0))) in
+            let in1 : In (r .slot) (slotsOf (r .e1) s) = slot-in-list s (r .e1) j i (names-second (r .e1) r (eqE-refl (r .e1))) in
             record {
               next0 = sym (along-first n (p .edges) r so he (p .links .next)) ∙ next (r .e0) (placed (so .first)) (r .slot) in0;
               prev0 = sym (along-first n (p .edges) r so he (p .links .prev)) ∙ prev (r .e0) (placed (so .first)) (r .slot) in0;

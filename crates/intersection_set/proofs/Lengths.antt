@@ -1,10 +1,10 @@
 -- What the steps of the pool leave as it was: the lengths of its lists; and that a step stays inside them.
-use mathlib.Core.Path.{_≡_, refl, _∙_, ap}
+use mathlib.Core.Path.{_≡_, refl, _∙_}
 use mathlib.Core.Logic.{_≢_}
 use mathlib.Core.List.{List}
 use mathlib.Core.Bool.{Bool, true, false, cond}
 use Prim.Native.Nat.{ℕ, zero, suc, _+_, _-_, _*_, _<_, _≤_}
-use native.Mathlib.Nat.{mul-le-mul, mul-le-mul-left, mul-suc, lt-of-lt-of-le}
+use native.Mathlib.Nat.{mul-le-mul, lt-of-lt-of-le}
 use native.Mathlib.Omega.{arith}
 use lib.Dec.{eqb}
 use lib.ListN.{length, getD, set, length-set}
@@ -13,19 +13,18 @@ use borrow.Author.Tests.{eqb-true, eqb-false, eq-eqb, ne-eqb}
 use Rattle.algebra.specs.Cases.{both, eq-cases}
 use Rattle.index_edge.specs.Edge.{Edge, eqE}
 use Rattle.intersection_set.specs.Lists.{none, headPlace}
-use Rattle.intersection_set.specs.Pool.{Ends, ends, Edges, Links, Order, Pool, counted, takeSlot, densePush, denseRemove, edgeAt, end0, end1, setEnd, headAt, linkFront, setHead, unlinkFrom, putEdges, clearEnds, clearLinks, poolPush, poolRemove, poolRemoveAll}
+use Rattle.intersection_set.specs.Pool.{Ends, ends, Edges, Links, Order, Pool, countsOf, takeSlot, densePush, denseRemove, edgeAt, end0, end1, setEnd, headAt, linkFront, setHead, unlinkFrom, putEdges, clearEnds, clearLinks, poolPush, poolRemove, poolRemoveAll}
 use Rattle.intersection_set.specs.Within.{Proper, TakeOk, AppendOk, EndOk, HeadOk, LinkOk, UnlinkOk, InEdges, InLinks, Sized, Good, PushOk, RemoveOk, Drained}
 use Rattle.intersection_set.specs.declared.utils.Counts.{Counts}
 use Rattle.intersection_set.specs.declared.utils.Taken.{Taken}
+use Rattle.intersection_set.proofs.HeadPlaces.{placed, head-below}
 
 -- 256 points have at most 65,280 records
 pub cap-small : {n : ℕ} → n ≤ 256 → n * (n - 1) ≤ 65280
 cap-small {n} h = let k : n - 1 ≤ 255 = omega arith in mul-le-mul h k
 
 pub place-lt : (n : ℕ) (e : Edge) → Proper n e → headPlace n e < n * (n - 1)
-place-lt n e ok =
-    let h : suc (e .lo) ≤ n - 1 = omega (arith, ok .up, ok .top) in
-    omega (arith, mul-le-mul-left n h, mul-suc n (e .lo), ok .top)
+place-lt n e ok = head-below n e (placed ok)
 
 -- ---- the slot that a push takes is in range
 pub slot-lt : (n : ℕ) (p : Pool) → Good n p → p .counts .live < n * (n - 1) → takeSlot (p .counts) (p .free) .slot .0 < n * (n - 1)
@@ -33,8 +32,8 @@ unfolding takeSlot
 slot-lt n p g room = go (eqb (p .counts .freed) 0) refl
   where
     go : (b : Bool) → eqb (p .counts .freed) 0 ≡ b → (cond {A = Taken} b
-        (record { slot = record { 0 = p .counts .grown }; counts = counted (p .counts .live + 1) (p .counts .grown + 1) 0 })
-        (record { slot = record { 0 = getD (p .free) (p .counts .freed - 1) 0 }; counts = counted (p .counts .live + 1) (p .counts .grown) (p .counts .freed - 1) })) .slot .0 < n * (n - 1)
+        (record { slot = record { 0 = p .counts .grown }; counts = countsOf (p .counts .live + 1) (p .counts .grown + 1) 0 })
+        (record { slot = record { 0 = getD (p .free) (p .counts .freed - 1) 0 }; counts = countsOf (p .counts .live + 1) (p .counts .grown) (p .counts .freed - 1) })) .slot .0 < n * (n - 1)
     go true h = let z = eqb-true (p .counts .freed) 0 h in let s = g .split in omega arith
     go false h = let z = eqb-false (p .counts .freed) 0 h in g .frees (p .counts .freed - 1) (omega arith)
 
@@ -244,7 +243,7 @@ pub remove-steps : (n s : ℕ) (p : Pool) {e0 e1 : Edge} {o : Order} {f : List �
     → l2 ≡ unlinkFrom n e1 (getD (p .links .next .x1) s 0) (getD (p .links .prev .x1) s 0) (p .edges .min0) (p .edges .max0) l1
     → o ≡ denseRemove s (p .counts .live) (p .order)
     → f ≡ set (p .free) (p .counts .freed) s
-    → c ≡ counted (p .counts .live - 1) (p .counts .grown) (p .counts .freed + 1)
+    → c ≡ countsOf (p .counts .live - 1) (p .counts .grown) (p .counts .freed + 1)
     → _≡_ {A = Pool} (record { edges = p .edges; links = l2; order = o; free = f; counts = c }) (poolRemove n s p)
 unfolding poolRemove
 remove-steps n s p f0 f1 el1 el2 eo ef ec = rw (el2, el1, eo, ef, ec, f1, f0)

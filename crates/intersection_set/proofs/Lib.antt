@@ -5,6 +5,7 @@ pub mod Chains
 pub mod ByAge
 pub mod Draining
 pub mod Filling
+pub mod HeadPlaces
 pub mod Lengths
 pub mod ReadOff
 pub mod Alike
@@ -15,3 +16,5 @@ pub mod Pushing
 pub mod Removing
 pub mod Starting
 pub mod Picking
+pub mod Showing
+pub mod StoreFacts

@@ -7,7 +7,7 @@ use Prim.Native.Nat.{ℕ, _-_, _*_, _<_}
 use native.Mathlib.Nat.{lt-of-lt-of-le}
 use borrow.Author.Tests.{eqb-false}
 use lib.Dec.{eqb}
-use lib.ListN.{getD, set, drop}
+use lib.ListN.{set, drop}
 use lib.Seq.{drop-set-lt}
 use Rattle.index_edge.specs.Edge.{Edge, eqE}
 use Rattle.intersection_set.specs.Lists.{none, headPlace}
@@ -108,7 +108,3 @@ beyond-push n e0 e1 p ok =
       reverse = drop-set-lt m (p .order .reverse) x (p .counts .live) hs;
       free = refl;
     }
-
-pub beyond-if : (n : ℕ) (e0 e1 : Edge) (p : Pool) (t : Bool) → (t ≡ true → PushOk n e0 e1 p) → Beyond (n * (n - 1)) (cond t (poolPush n e0 e1 p) p) p
-beyond-if n e0 e1 p true ok = beyond-push n e0 e1 p (ok refl)
-beyond-if n e0 e1 p false ok = beyond-self (n * (n - 1)) p

@@ -1,7 +1,7 @@
 -- A pick: the dense entry that it takes is a live slot, whose edges are those of the record that it names.
 use mathlib.Core.Path.{_≡_, sym, ap, subst, _∙_}
 use mathlib.Core.List.{List}
-use Prim.Native.Nat.{ℕ, _-_, _*_, _%_, _≤_, _<_}
+use Prim.Native.Nat.{ℕ, _-_, _*_, _%_, _<_}
 use native.Mathlib.Omega.{arith}
 use native.Mathlib.Nat.{mod-lt, lt-of-lt-of-le}
 use lib.ListN.{length, getD}

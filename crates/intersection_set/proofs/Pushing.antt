@@ -15,7 +15,7 @@ use Rattle.algebra.specs.Counting.{one, countP, one-le, count-at, count-snoc, l
 use Rattle.index_edge.specs.Edge.{Edge, eqE, ltE}
 use Rattle.index_edge.proofs.Edges.{edge-eq, eqE-refl, eqE-sym, ltE-other}
 use Rattle.intersection_set.specs.Store as plain
-use Rattle.intersection_set.specs.Store.{Rec, Store, noRec, recFor, slotFor, rest, names, grown}
+use Rattle.intersection_set.specs.Store.{Rec, Store, noRec, recFor, slotFor, rest, grown}
 use Rattle.intersection_set.specs.Lists.{none, slotOf}
 use Rattle.intersection_set.specs.Pool as pool
 use Rattle.intersection_set.specs.Pool.{Edges, edges, links, linkFront, Pool, end0, end1, takeSlot, putEdges, clearEnds, densePush, poolPush, pushAt, lesser, greater}
@@ -24,19 +24,16 @@ use Rattle.intersection_set.specs.Holds.{Each, Sound, HeldIn, Stack, InO
 use Rattle.intersection_set.proofs.Slots.{numbered-kept, free-below}
 use Rattle.intersection_set.proofs.Linked.{head-in}
 use Rattle.intersection_set.proofs.Draining.{reverse-push}
-use Rattle.intersection_set.proofs.Chains.{Links, Chain, Rep, chain-agree, upd, upd-edge, front, pushLinks, rep-push}
+use Rattle.intersection_set.proofs.Chains.{Links, Chain, cond-fun, either, Rep, chain-agree, upd, upd-edge, front, pushLinks, rep-push}
+use Rattle.intersection_set.proofs.HeadPlaces.{placed}
 use Rattle.intersection_set.proofs.Alike.{Same, same-then, front-same}
 use Rattle.intersection_set.proofs.Views.{view, At, link-is}
 use Rattle.intersection_set.proofs.Lengths.{cap-small, len-x0, len-x1, sizes-push, sized-same}
-use Rattle.intersection_set.proofs.Holding.{each-push, placed, differ, Near, reach, LiveAt, chain-live, near-head, rep-same, holds-good, lists, lists-of, holds-of}
-use Rattle.intersection_set.proofs.PastTheEnd.{beyond-self, beyond-push}
+use Rattle.intersection_set.proofs.Holding.{each-push, differ, Near, reach, LiveAt, chain-live, near-head, rep-same, holds-good, lists, lists-of, holds-of}
+use Rattle.intersection_set.proofs.PastTheEnd.{beyond-push}
 
 abbrev pub newRec : Edge → Edge → Store → Rec
 newRec a b s = recFor a b (s .pushes) (slotFor (s .free) (length (s .dense)))
-
-either : (t : Bool) (a b : Edge) (Q : Edge → Edge → Type 0) → Q a b → Q b a → Q (cond t a b) (cond t b a)
-either true a b Q p q = p
-either false a b Q p q = q
 
 -- the smaller edge comes first
 smaller-first : (a b : Edge) → eqE a b ≡ false → ltE (lesser a b) (greater a b) ≡ true
@@ -109,10 +106,6 @@ same-ends : {A : Type 0} (b : Bool) (v : A) → cond b v v ≡ v
 same-ends true v = refl
 same-ends false v = refl
 
-if-fun : (b : Bool) (p q : Edge → ℕ → ℕ) (g : Edge) (y v : ℕ) → p g y ≡ v → q g y ≡ v → cond b p q g y ≡ v
-if-fun true p q g y v h k = h
-if-fun false p q g y v h k = k
-
 module _ (n : ℕ) (p : Pool) (s : Store) (h : Stored n p s) (rep : lists n p s) (r : Rec) (xm : r .slot < n * (n - 1)) (new : (j : ℕ) → j < length (s .dense) → getD (s .dense) j noRec .slot ≢ r .slot) where
   wrote-other : (y : ℕ) → y ≢ r .slot → (end0 (wrote r (p .edges)) y ≡ end0 (p .edges) y) × (end1 (wrote r (p .edges)) y ≡ end1 (p .edges) y)
   wrote-other y d = (
@@ -168,7 +161,7 @@ module _ (n : ℕ) (v : Edges) (l : pool.Links) (r : Rec) (long : Long (n * (n -
       let q2 : view n v l1 .prev (r .e1) x ≡ none
       = S1 .prevs (r .e1) x v1
       ∙ upd-edge (r .e0) x none (cond (eqb (k .head (r .e0)) none) (k .prev) (upd (r .e0) (k .head (r .e0)) x (k .prev))) (r .e1) x d10
-      ∙ if-fun (eqb (k .head (r .e0)) none) (k .prev) (upd (r .e0) (k .head (r .e0)) x (k .prev)) (r .e1) x none (pv (r .e1)) (upd-edge (r .e0) (k .head (r .e0)) x (k .prev) (r .e1) x d10 ∙ pv (r .e1)) in
+      ∙ cond-fun (eqb (k .head (r .e0)) none) (k .prev) (upd (r .e0) (k .head (r .e0)) x (k .prev)) (r .e1) x none (pv (r .e1)) (upd-edge (r .e0) (k .head (r .e0)) x (k .prev) (r .e1) x d10 ∙ pv (r .e1)) in
       let S2 : Same (Placed n) (At v) (view n v (linked2 n r v l)) (front none (r .e1) x (view n v l1))
       = link-is n v l1 (long1 .heads) (r .e1) p1 x xn (reach (l1 .next) (long1 .next0) (long1 .next1) (record { below = xm; valid = v1 }))
       (λ u. reach (l1 .prev) (long1 .prev0) (long1 .prev1) (subst⁻¹ (Near n v (r .e1)) hh (near (r .e1) p1 (λ t. u (hh ∙ t)))))

@@ -1,18 +1,18 @@
 -- What a push and a removal do to the number of records that pass a test.
 use mathlib.Core.Path.{_≡_, refl, sym, ap, subst, _∙_}
-use mathlib.Core.Bool.{Bool, true, false, not, _&&_, _||_, cond, true≢false, or-false, and-true, and-false}
+use mathlib.Core.Bool.{Bool, true, false, not, _&&_, _||_, cond, and-true, and-false}
 use mathlib.Core.List.{List, [], _∷_}
 use Prim.Native.Nat.{ℕ, zero, suc, _+_, _-_, _≤_, _<_}
 use native.Mathlib.Omega.{arith}
-use borrow.Author.Tests.{ltb-true, ltb-false, eqb-true, eqb-false, lt-ltb, le-ltb, eq-eqb, ne-eqb}
+use borrow.Author.Tests.{ltb-true, eqb-true, eqb-false, lt-ltb, le-ltb}
 use lib.Dec.{eqb, ltb}
 use lib.ListN.{length, getD, set, length-set}
 use lib.Seq.{getD-set-same, getD-set-other}
 use Rattle.index_edge.proofs.Edges.{eqE-sym, at-edge, at-pair}
 use Rattle.algebra.specs.Counting.{one, countP, count-same, count-length, count-none, count-set, count-front, count-le, count-split}
-use Rattle.index_edge.specs.Edge.{Edge, eqE, ltE, memberE}
+use Rattle.index_edge.specs.Edge.{Edge, eqE, memberE}
 use Rattle.intersection_set.specs.Store.{Rec, Store, names, Found, nothing, at-place, newer, newestFrom, noRec, swapRemove, removeFound, removeAllFuel, removeAll, removes, counted}
-use Rattle.algebra.specs.Cases.{same-test, both, true-or-false, and-left, and-right}
+use Rattle.algebra.specs.Cases.{both, true-or-false, and-left, and-right}
 
 -- ---- one record taken out
 last-set : (l : List Rec) (k j : ℕ) → j < length l → getD (set l k (getD l j noRec)) j noRec ≡ getD l j noRec

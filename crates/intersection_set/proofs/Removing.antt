@@ -1,7 +1,7 @@
 -- A removal, and the removal of all of an edge: buffers that hold a store then hold the store after it.
 use mathlib.Core.Path.{_≡_, refl, sym, ap, subst, subst⁻¹, _∙_}
 use mathlib.Core.Logic.{_≢_}
-use mathlib.Core.Bool.{Bool, true, false, cond}
+use mathlib.Core.Bool.{true, false}
 use mathlib.Core.List.{List}
 use Prim.Native.Nat.{ℕ, zero, suc, _-_, _*_, _≤_, _<_}
 use native.Mathlib.Omega.{arith}
@@ -12,7 +12,7 @@ use lib.ListN.{length, getD, set}
 use lib.Seq.{getD-set-same, getD-set-other, drop-set-lt}
 use Rattle.algebra.specs.Cases.{both, true-or-false}
 use Rattle.index_edge.specs.Edge.{Edge, eqE}
-use Rattle.index_edge.proofs.Edges.{eqE-sym}
+use Rattle.index_edge.proofs.Edges.{eqE-refl, eqE-sym}
 use Rattle.intersection_set.specs.Store as plain
 use Rattle.intersection_set.specs.Store.{Rec, Store, Found, nothing, at-place, noRec, swapRemove, newestFrom, removeFound, removeAllFuel, names}
 use Rattle.intersection_set.specs.Lists.{none, slotOf}
@@ -23,11 +23,12 @@ use Rattle.intersection_set.specs.Holds.{Sound, HeldIn, InOrder, Placed,
 use Rattle.intersection_set.proofs.Records.{Newest, newest-is}
 use Rattle.intersection_set.proofs.Slots.{numbered-kept, slot-below, swapRemove-length}
 use Rattle.intersection_set.proofs.Draining.{stays, reverse-remove, swap-other, swap-here}
-use Rattle.intersection_set.proofs.Chains.{Links, Rep, upd-edge, unlink, removeLinks, rep-remove, slotFound, head-newest}
+use Rattle.intersection_set.proofs.Chains.{Links, Rep, cond-fun, names-first, names-second, upd-edge, unlink, removeLinks, rep-remove, slotFound, head-newest}
+use Rattle.intersection_set.proofs.HeadPlaces.{placed}
 use Rattle.intersection_set.proofs.Alike.{Same, same-then, unlink-same}
 use Rattle.intersection_set.proofs.Views.{view, At, unlink-is}
 use Rattle.intersection_set.proofs.Lengths.{cap-small, place-lt, end-ok, head-ok, len-x0, len-x1, len-head, sizes-remove, sized-same, all-none, all-suc}
-use Rattle.intersection_set.proofs.Holding.{each-remove, placed, differ, names-first, names-second, stack-set, Near, reach, near-prev, near-next, rep-same, along-first, along-second, lists, lists-of, holds-of, not-none}
+use Rattle.intersection_set.proofs.Holding.{each-remove, differ, stack-set, Near, reach, near-prev, near-next, rep-same, along-first, along-second, lists, lists-of, holds-of, not-none}
 use Rattle.intersection_set.proofs.Pushing.{Long, long-sized}
 use Rattle.intersection_set.proofs.PastTheEnd.{beyond-self, beyond-then, past-unlink, past-then}
 
@@ -37,15 +38,11 @@ long-unlink m n e x y min0 max0 l h =
     record { heads = simp len-head (h .heads); next0 = simp len-x0 (h .next0); next1 = simp len-x1 (h .next1); prev0 = simp len-x0 (h .prev0); prev1 = simp len-x1 (h .prev1) }
 
 -- ---- links along another edge
-if-fun : (b : Bool) (p q : Edge → ℕ → ℕ) (g : Edge) (y v : ℕ) → p g y ≡ v → q g y ≡ v → cond b p q g y ≡ v
-if-fun true p q g y v h k = h
-if-fun false p q g y v h k = k
-
 other-prev : (e g : Edge) (x y : ℕ) (k : Links) → eqE g e ≡ false → unlink none e x k .prev g y ≡ k .prev g y
-other-prev e g x y k h = if-fun (eqb (k .next e x) none) _ _ g y (k .prev g y) refl (upd-edge e (k .next e x) (k .prev e x) (k .prev) g y h)
+other-prev e g x y k h = cond-fun (eqb (k .next e x) none) _ _ g y (k .prev g y) refl (upd-edge e (k .next e x) (k .prev e x) (k .prev) g y h)
 
 other-next : (e g : Edge) (x y : ℕ) (k : Links) → eqE g e ≡ false → unlink none e x k .next g y ≡ k .next g y
-other-next e g x y k h = if-fun (eqb (k .prev e x) none) _ _ g y (k .next g y) refl (upd-edge e (k .prev e x) (k .next e x) (k .next) g y h)
+other-next e g x y k h = cond-fun (eqb (k .prev e x) none) _ _ g y (k .next g y) refl (upd-edge e (k .prev e x) (k .next e x) (k .next) g y h)
 
 -- ---- out of both lists
 abbrev out1 : ℕ → ℕ → Edge → Edges → pool.Links → pool.Links
@@ -88,16 +85,16 @@ module _ (n : ℕ) (p : Pool) (s : Store) (h : Stored n p s) (rep : lists n p s)
   as-read g y z q f u = subst⁻¹ (Near n (p .edges) g) q (f (λ w. u (q ∙ w)))
 
   near-p0 : getD (p .links .prev .x0) (rec .slot) 0 ≢ none → Near n (p .edges) (rec .e0) (getD (p .links .prev .x0) (rec .slot) 0)
-  near-p0 = as-read (rec .e0) _ _ prev0-is (near (rec .e0) (placed (h .sound j i .first)) (names-first rec) .0)
+  near-p0 = as-read (rec .e0) _ _ prev0-is (near (rec .e0) (placed (h .sound j i .first)) (names-first (rec .e0) rec (eqE-refl (rec .e0))) .0)
 
   near-n0 : getD (p .links .next .x0) (rec .slot) 0 ≢ none → Near n (p .edges) (rec .e0) (getD (p .links .next .x0) (rec .slot) 0)
-  near-n0 = as-read (rec .e0) _ _ next0-is (near (rec .e0) (placed (h .sound j i .first)) (names-first rec) .1)
+  near-n0 = as-read (rec .e0) _ _ next0-is (near (rec .e0) (placed (h .sound j i .first)) (names-first (rec .e0) rec (eqE-refl (rec .e0))) .1)
 
   near-p1 : getD (p .links .prev .x1) (rec .slot) 0 ≢ none → Near n (p .edges) (rec .e1) (getD (p .links .prev .x1) (rec .slot) 0)
-  near-p1 = as-read (rec .e1) _ _ prev1-is (near (rec .e1) (placed (h .sound j i .second)) (names-second rec (differ (h .sound j i))) .0)
+  near-p1 = as-read (rec .e1) _ _ prev1-is (near (rec .e1) (placed (h .sound j i .second)) (names-second (rec .e1) rec (eqE-refl (rec .e1))) .0)
 
   near-n1 : getD (p .links .next .x1) (rec .slot) 0 ≢ none → Near n (p .edges) (rec .e1) (getD (p .links .next .x1) (rec .slot) 0)
-  near-n1 = as-read (rec .e1) _ _ next1-is (near (rec .e1) (placed (h .sound j i .second)) (names-second rec (differ (h .sound j i))) .1)
+  near-n1 = as-read (rec .e1) _ _ next1-is (near (rec .e1) (placed (h .sound j i .second)) (names-second (rec .e1) rec (eqE-refl (rec .e1))) .1)
 
   spot-is : getD (p .order .reverse) (rec .slot) 0 ≡ j
   spot-is = h .reverse j i
@@ -217,7 +214,7 @@ module _ (n : ℕ) (p : Pool) (s : Store) (h : Stored n p s) (rep : lists n p s)
       subst⁻¹ (λ (e : Edge). Rep none (Placed n) left (view n (p .edges) (out2 n (rec .slot) e (end1 (p .edges) (rec .slot)) (p .edges) (p .links)))) (h .held j i .0)
       (subst⁻¹ (λ (f : Edge). Rep none (Placed n) left (view n (p .edges) (out2 n (rec .slot) (rec .e0) f (p .edges) (p .links)))) (h .held j i .1) lists-remove)
 
-  pub holds-removed : Holds n (poolRemove n (rec .slot) p) left
+  holds-removed : Holds n (poolRemove n (rec .slot) p) left
   holds-removed = holds-of n (poolRemove n (rec .slot) p) left stored-remove lists-removed
 
   pub beyond-remove : Beyond (n * (n - 1)) (poolRemove n (rec .slot) p) p
@@ -244,6 +241,11 @@ module _ (n : ℕ) (p : Pool) (s : Store) (h : Stored n p s) (rep : lists n p s)
         reverse = drop-set-lt m (p .order .reverse) (getD (p .order .dense) (p .counts .live - 1) 0) _ last-lt;
         free = drop-set-lt m (p .free) (p .counts .freed) x (omega (arith, h .freed, h .room));
       }
+
+-- buffers that hold a store, after a removal, hold the store after the removal
+pub holds-remove : (n : ℕ) (p : Pool) (s : Store) → Holds n p s → (j : ℕ) → j < length (s .dense)
+    → Holds n (poolRemove n (getD (s .dense) j noRec .slot) p) (removeFound (at-place j (getD (s .dense) j noRec)) s)
+holds-remove n p s h j i = holds-removed n p s (h .stored) (lists-of n p s h) j i
 
 -- ---- all the records of an edge, newest first
 module _ (n : ℕ) (e : Edge) (pe : Proper n e) where
@@ -274,7 +276,7 @@ module _ (n : ℕ) (e : Edge) (pe : Proper n e) where
           let s' : Store = removeFound (newestFrom e 0 (s .dense)) s in
           let same : removeFound (at-place k (getD (s .dense) k noRec)) s ≡ s' = ap (λ (y : Rec). removeFound (at-place k y) s) there ∙ ap (λ (y : Found). removeFound y s) (sym q) in
           let h' : Holds n (poolRemove n (headAt n e (p .links .heads)) p) s'
-          = subst⁻¹ (λ (y : ℕ). Holds n (poolRemove n y p) s') hd (subst (Holds n (poolRemove n (getD (s .dense) k noRec .slot) p)) same (holds-removed n p s (h .stored) (lists-of n p s h) k i)) in
+          = subst⁻¹ (λ (y : ℕ). Holds n (poolRemove n y p) s') hd (subst (Holds n (poolRemove n (getD (s .dense) k noRec .slot) p)) same (holds-remove n p s h k i)) in
           let len' : length (s' .dense) ≤ f = omega (arith, ap (λ (y : Store). length (y .dense)) same, swapRemove-length (s .dense) k i) in
           let r' : Both f (poolRemove n (headAt n e (p .links .heads)) p) s' = again (poolRemove n (headAt n e (p .links .heads)) p) s' h' len' in (
             Drained.some ne (subst⁻¹ (λ (y : ℕ). RemoveOk n y p) hd (remove-ok n p s (h .stored) (lists-of n p s h) k i)) (r' .0),

@@ -1,13 +1,13 @@
 -- Ages and slots: what a push and a removal keep.
 use mathlib.Core.Path.{_≡_, refl, sym, ap, subst}
-use mathlib.Core.Bool.{Bool, true, false, not, _&&_, cond}
+use mathlib.Core.Bool.{Bool, true, false, cond}
 use mathlib.Core.List.{List, [], _∷_, _++_}
-use Prim.Native.Nat.{ℕ, zero, suc, _+_, _-_, _≤_, _<_, max}
+use Prim.Native.Nat.{ℕ, zero, suc, _+_, _≤_, _<_, max}
 use native.Mathlib.Omega.{arith}
 use borrow.Author.Tests.{ltb-true, ltb-false, eqb-true, eqb-false, lt-ltb, le-ltb, eq-eqb}
 use lib.Dec.{eqb, ltb}
 use lib.ListN.{length, getD}
-use Rattle.algebra.specs.Counting.{one, countP, one-le, count-snoc, count-length, count-at, count-at-two, length-snoc}
+use Rattle.algebra.specs.Counting.{one, one-le, count-snoc, count-length, count-at, count-at-two, length-snoc}
 use Rattle.index_edge.specs.Edge.{Edge}
 use Rattle.intersection_set.specs.Store.{Rec, Store, Found, nothing, at-place, noRec, empty, grown, push, recFor, slotFor, rest, swapRemove, newestFrom, removeFound, removeAllFuel, removeAll, removes}
 use Rattle.algebra.specs.Cases.{both, true-or-false}

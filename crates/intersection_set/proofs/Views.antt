@@ -14,7 +14,8 @@ use Rattle.intersection_set.specs.Pool as pool
 use Rattle.intersection_set.specs.Pool.{Edges, Ends, ends, end0, end1, setEnd, setHead}
 use Rattle.intersection_set.specs.Holds.{Placed}
 use Rattle.intersection_set.proofs.Chains.{Links, upd, updH, front, unlink}
-use Rattle.intersection_set.proofs.Alike.{head-write, Valid, valid-same, Same, upd-noop}
+use Rattle.intersection_set.proofs.Alike.{Valid, valid-same, Same, upd-noop}
+use Rattle.intersection_set.proofs.HeadPlaces.{head-write}
 
 -- what is read along e at slot t: the first end's link if that is e, else the second's
 abbrev pub linkAt : Edges → Ends → Edge → ℕ → ℕ

@@ -1,13 +1,13 @@
 -- The buffers hold a store.
 use mathlib.Core.Path.{_≡_}
 use mathlib.Core.Bool.{true, false}
-use mathlib.Core.List.{List, [], _∷_}
+use mathlib.Core.List.{List, [], _∷_, map}
 use Prim.Native.Nat.{ℕ, suc, _-_, _*_, _≤_, _<_}
-use lib.ListN.{length, getD, drop}
+use lib.ListN.{length, getD, take, drop}
 use Rattle.index_edge.specs.Edge.{Edge, eqE, ltE}
 use Rattle.intersection_set.specs.Store.{Rec, Store, noRec, grown}
 use Rattle.intersection_set.specs.Numbered.{Numbered}
-use Rattle.intersection_set.specs.Lists.{headPlace, headOf, nextOf, prevOf}
+use Rattle.intersection_set.specs.Lists.{slotOf, headPlace, headOf, nextOf, prevOf, reverseOf, stackOf, headsOf}
 use Rattle.intersection_set.specs.Pool.{Edges, Links, Pool, end0, end1}
 use Rattle.intersection_set.specs.Within.{Proper, Sized}
 
@@ -67,6 +67,15 @@ pub record Stored (n : ℕ) (p : Pool) (s : Store) : Type 0 where
 pub record Holds (n : ℕ) (p : Pool) (s : Store) : Type 0 where
   pub stored : Stored n p s
   pub heads : (e : Edge) → Placed n e → getD (p .links .heads) (headPlace n e) 0 ≡ headOf e s
+  pub linked : Each (LinkedIn (p .links) s) (s .dense)
+
+-- What a reader of the buffers sees of a store, by equations: heads in full, and of the others the live entries.
+pub record Shows (n : ℕ) (p : Pool) (s : Store) : Type 0 where
+  pub heads : take (n * (n - 1)) (p .links .heads) ≡ headsOf n s
+  pub dense : take (length (s .dense)) (p .order .dense) ≡ map slotOf (s .dense)
+  pub reverse : Each (λ r. getD (p .order .reverse) (r .slot) 0 ≡ reverseOf (r .slot) s) (s .dense)
+  pub free : take (length (s .free)) (p .free) ≡ stackOf (s .free)
+  pub edges : Each (HeldIn (p .edges)) (s .dense)
   pub linked : Each (LinkedIn (p .links) s) (s .dense)
 
 -- what a push of a and b asks of the store

@@ -1,6 +1,6 @@
 -- What a store says of each edge's list and of each slot: heads, links and places, by computation.
 use mathlib.Core.Bool.{cond}
-use mathlib.Core.List.{List, [], _∷_, map}
+use mathlib.Core.List.{List, [], _∷_, _++_, map}
 use Prim.Native.Nat.{ℕ, suc, _+_, _-_, _*_, _/_, _%_}
 use lib.Dec.{eqb, ltb}
 use Rattle.algebra.specs.Ranges.{upFrom}
@@ -27,7 +27,7 @@ slotOf r = r .slot
 abbrev pub slotsOf : Edge → Store → List ℕ
 slotsOf e s = map slotOf (listOf e (s .dense))
 
--- ---- head, next and previous, read off a list of slots; m stands for no slot
+-- ---- head, next and previous, read off a list of slots that ends in m
 abbrev pub firstOr : ℕ → List ℕ → ℕ
 firstOr m [] = m
 firstOr m (x ∷ l) = x
@@ -36,7 +36,7 @@ abbrev pub after : ℕ → ℕ → List ℕ → ℕ
 after m x [] = m
 after m x (y ∷ l) = cond (eqb x y) (firstOr m l) (after m x l)
 
--- p stands in front of the list
+-- of an x in the list; p stands in front of it
 abbrev pub before : ℕ → ℕ → List ℕ → ℕ
 before p x [] = p
 before p x (y ∷ l) = cond (eqb x y) p (before y x l)
@@ -57,6 +57,11 @@ placeFrom i x (r ∷ d) = cond (eqb x (r .slot)) i (placeFrom (suc i) x d)
 
 abbrev pub reverseOf : ℕ → Store → ℕ
 reverseOf x s = placeFrom 0 x (s .dense)
+
+-- ---- the free slots as a stack: the one freed last at the end
+abbrev pub stackOf : List ℕ → List ℕ
+stackOf [] = []
+stackOf (a ∷ l) = stackOf l ++ (a ∷ [])
 
 -- ---- the heads in full
 -- An edge's head stands at max + n×min.

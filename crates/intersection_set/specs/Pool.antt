@@ -1,7 +1,7 @@
 -- The lent buffers as lists, and what each step of the pool does to them.
 use mathlib.Core.Bool.{cond}
 use mathlib.Core.List.{List, _++_}
-use Prim.Native.Nat.{ℕ, zero, suc, _+_, _-_, _*_}
+use Prim.Native.Nat.{ℕ, zero, suc, _+_, _-_}
 use lib.ListN.{getD, set, drop, replicate}
 use lib.Dec.{eqb}
 use Rattle.index_edge.specs.Edge.{Edge, eqE, ltE}
@@ -63,15 +63,15 @@ poolOf heads min0 max0 next0 prev0 min1 max1 next1 prev1 dense reverse free c =
     }
 
 -- ---- slots
-abbrev pub counted : ℕ → ℕ → ℕ → Counts
-counted live grown freed = record { live = live; grown = grown; freed = freed }
+abbrev pub countsOf : ℕ → ℕ → ℕ → Counts
+countsOf live grown freed = record { live = live; grown = grown; freed = freed }
 
 -- the slot freed last, else the next new one
 unfoldable pub takeSlot : Counts → List ℕ → Taken
 takeSlot c free =
     cond (eqb (c .freed) 0)
-    (record { slot = record { 0 = c .grown }; counts = counted (c .live + 1) (c .grown + 1) 0 })
-    (record { slot = record { 0 = getD free (c .freed - 1) 0 }; counts = counted (c .live + 1) (c .grown) (c .freed - 1) })
+    (record { slot = record { 0 = c .grown }; counts = countsOf (c .live + 1) (c .grown + 1) 0 })
+    (record { slot = record { 0 = getD free (c .freed - 1) 0 }; counts = countsOf (c .live + 1) (c .grown) (c .freed - 1) })
 
 -- a slot is appended to the dense order
 unfoldable pub densePush : ℕ → ℕ → Order → Order
@@ -168,7 +168,7 @@ poolRemove n s p =
       links = unlinkBoth n s p;
       order = denseRemove s (p .counts .live) (p .order);
       free = set (p .free) (p .counts .freed) s;
-      counts = counted (p .counts .live - 1) (p .counts .grown) (p .counts .freed + 1);
+      counts = countsOf (p .counts .live - 1) (p .counts .grown) (p .counts .freed + 1);
     }
 
 -- newest first, at most as many as the number says

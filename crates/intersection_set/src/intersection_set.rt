@@ -1,16 +1,15 @@
 // Crossing records, each linked along its two edges (intersection_set.rs, `IndexIntersectionSet`).
 //
-// A record's fields are lent slices, indexed by its slot: for edge0 its vertices `min0` and `max0` and its links `next0` and
-// `prev0` along that edge's list, and the same for edge1. `heads` has each edge's newest record.
+// A record's fields are lent slices, indexed by its slot: of edge0 its vertex0 `min0`, its vertex1 `max0`, and its links `next0`
+// and `prev0` along that edge's list; of edge1 the same. `heads` has each edge's newest record.
 ghost use mathlib.Core.Path.{_≡_};
 ghost use mathlib.Core.Bool.{true, cond};
 ghost use Prim.Native.Nat.{ℕ, _-_, _*_, _<_, _≤_};
 ghost use lib.ListN.{length, getD, drop};
-ghost use Rattle.index_edge.specs.Edge.{Edge};
 ghost use Rattle.index_edge.specs.Number.{edgeOf};
 ghost use Rattle.intersection_set.specs.Store.{Store, noRec, empty, push as pushed, removeAll as allRemoved, chosen};
 ghost use Rattle.intersection_set.specs.Lists.{headPlace};
-ghost use Rattle.intersection_set.specs.Pool.{Pool, ends, edges, links, poolOf, counted, edgeAt, headAt, setEnd, linkFront, setHead, unlinkFrom, putEdges, clearEnds, poolPush, poolRemove, lesser, greater, fill};
+ghost use Rattle.intersection_set.specs.Pool.{Pool, ends, edges, links, poolOf, edgeAt, headAt, setEnd, linkFront, setHead, unlinkFrom, putEdges, clearEnds, poolPush, poolRemove, lesser, greater, fill};
 ghost use Rattle.intersection_set.specs.Within.{Proper, EndOk, HeadOk, LinkOk, UnlinkOk, InEdges, InLinks, Sized, PushOk, RemoveOk};
 ghost use Rattle.intersection_set.specs.Holds.{Holds, MayPush, Beyond};
 use crate::utils::Counts;
@@ -39,7 +38,33 @@ impl IndexIntersection {
     }
 }
 
-// Where an edge's head stands.
+// Writes that the first edges have no record.
+fn clear_heads(size: usize, heads: &mut [u16])
+    requires { ⌜ size ≤ length (now heads) ⌝ }
+    ensures { λ _. ⌜ now (heads .exit) ≡ fill size (now (heads .entry)) ⌝ }
+{
+    let mut i: usize = 0;
+    while i < size {
+        heads[i] = NONE;
+        i += 1;
+    }
+}
+
+// The set with no records (`IndexIntersectionSet::new`): every head is none, whatever the other buffers hold.
+pub fn clear(n: usize, heads: &mut [u16]) -> Counts
+    requires { ⌜ (0 < n) × (n ≤ 256) × (n * (n - 1) ≤ length (now heads)) ⌝ }
+    ensures { λ r. ⌜ ((p : Pool) → Sized n p → p .links .heads ≡ now (heads .exit) → p .counts ≡ r → Holds n p empty) × (drop (n * (n - 1)) (now (heads .exit)) ≡ drop (n * (n - 1)) (now (heads .entry))) ⌝ }
+{
+    let size = n * (n - 1);
+    clear_heads(size, heads);
+    Counts {
+        live: 0,
+        grown: 0,
+        freed: 0,
+    }
+}
+
+// Where an edge's head stands (`Index<IndexEdge>`).
 fn place(n: usize, e: IndexEdge) -> usize
     requires { ⌜ (n ≤ 256) × Proper n (edgeOf e) ⌝ }
     ensures { λ r. ⌜ r ≡ headPlace n (edgeOf e) ⌝ }
@@ -67,7 +92,8 @@ fn edge_at(min: &[u16], max: &[u16], i: usize) -> IndexEdge
     }
 }
 
-// Sets a link of the record s to v: x0's where its edge0 is e, else x1's. Nothing where s is no record.
+// Sets a link of the record s to v, in the end of s that is e (`IndexMut<IndexEdge>`): x0 is edge0's field, x1 edge1's.
+// Nothing where s is no record.
 fn set_end(
     s: SparseIndex,
     e: IndexEdge,
@@ -154,7 +180,7 @@ fn clear_links(
 }
 
 // Records two edges that meet: in a slot of its own, in front of both edges' lists.
-fn push(
+pub fn push(
     n: usize,
     isect: IndexIntersection,
     c: Counts,
@@ -186,7 +212,7 @@ fn push(
     t.counts
 }
 
-// Records that a and b meet, where they do.
+// Records that a and b meet, where they do: a loop over pairs of edges has then one path.
 pub fn push_if(
     ok: bool,
     n: usize,
@@ -351,7 +377,7 @@ pub fn remove_all(
     k
 }
 
-// The edges of a record: the one that a pick takes from the dense order.
+// The record that a pick takes from the dense order.
 pub fn random(
     pick: u32,
     c: Counts,
@@ -372,30 +398,5 @@ pub fn random(
     IndexIntersection {
         min: edge_at(min0, max0, i),
         max: edge_at(min1, max1, i),
-    }
-}
-
-// No records: every head is none.
-pub fn clear(n: usize, heads: &mut [u16]) -> Counts
-    requires { ⌜ (0 < n) × (n ≤ 256) × (n * (n - 1) ≤ length (now heads)) ⌝ }
-    ensures { λ r. ⌜ ((p : Pool) → Sized n p → p .links .heads ≡ now (heads .exit) → p .counts ≡ r → Holds n p empty) × (drop (n * (n - 1)) (now (heads .exit)) ≡ drop (n * (n - 1)) (now (heads .entry))) ⌝ }
-{
-    let size = n * (n - 1);
-    clear_heads(size, heads);
-    Counts {
-        live: 0,
-        grown: 0,
-        freed: 0,
-    }
-}
-
-fn clear_heads(size: usize, heads: &mut [u16])
-    requires { ⌜ size ≤ length (now heads) ⌝ }
-    ensures { λ _. ⌜ now (heads .exit) ≡ fill size (now (heads .entry)) ⌝ }
-{
-    let mut i: usize = 0;
-    while i < size {
-        heads[i] = NONE;
-        i += 1;
     }
 }

@@ -4,7 +4,7 @@ ghost use Prim.Native.Nat.{_+_, _-_, _<_};
 ghost use lib.Dec.{eqb};
 ghost use lib.ListN.{length, set};
 ghost use Rattle.intersection_set.specs.Lists.{none};
-ghost use Rattle.intersection_set.specs.Pool.{order, counted, takeSlot, densePush, denseRemove};
+ghost use Rattle.intersection_set.specs.Pool.{order, countsOf, takeSlot, densePush, denseRemove};
 ghost use Rattle.intersection_set.specs.Within.{TakeOk, AppendOk, DropOk};
 
 // The number of a slot. It is taken apart only where a slice is indexed.
@@ -52,13 +52,13 @@ fn take_slot(c: Counts, free: &[u16]) -> Taken
             },
         }
     } else {
-        let last = freed - 1;
+        let last = free[freed - 1];
         Taken {
-            slot: SparseIndex(free[last]),
+            slot: SparseIndex(last),
             counts: Counts {
                 live: live + 1,
                 grown: grown,
-                freed: last,
+                freed: freed - 1,
             },
         }
     }
@@ -109,7 +109,7 @@ pub fn release(
     free: &mut [u16],
 ) -> Counts
     requires { ⌜ DropOk (s .0) (c .live) (order (now dense) (now reverse)) × (c .freed < length (now free)) ⌝ }
-    ensures { λ r. ⌜ (order (now (dense .exit)) (now (reverse .exit)) ≡ denseRemove (s .0) (c .live) (order (now (dense .entry)) (now (reverse .entry)))) × (now (free .exit) ≡ set (now (free .entry)) (c .freed) (s .0)) × (r ≡ counted (c .live - 1) (c .grown) (c .freed + 1)) ⌝ }
+    ensures { λ r. ⌜ (order (now (dense .exit)) (now (reverse .exit)) ≡ denseRemove (s .0) (c .live) (order (now (dense .entry)) (now (reverse .entry)))) × (now (free .exit) ≡ set (now (free .entry)) (c .freed) (s .0)) × (r ≡ countsOf (c .live - 1) (c .grown) (c .freed + 1)) ⌝ }
 {
     let live = c.live;
     let grown = c.grown;

@@ -1,7 +1,6 @@
 -- `link_front` meets its contract: each store is one field of `linkFront`.
 use Prim.Native.Nat.{ℕ}
 use mathlib.Core.Path.{ap, _∙_}
-use mathlib.Core.List.{List}
 use native.Mathlib.Omega.{arith}
 use denote.Ref.{now}
 use lib.ListN.{set, getD}

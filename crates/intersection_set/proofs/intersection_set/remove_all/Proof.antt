@@ -8,11 +8,10 @@ use borrow.Author.Tests.{eqb-true, eqb-false}
 use lib.ListN.{length}
 use denote.Ref.{now}
 use Rattle.algebra.specs.Cases.{not-true, not-false}
-use Rattle.index_edge.specs.Edge.{Edge}
 use Rattle.index_edge.specs.Number.{edgeOf}
 use Rattle.intersection_set.specs.Lists.{none}
 use Rattle.intersection_set.specs.Pool.{Pool, poolOf, headAt, poolRemove, poolRemoveAll}
-use Rattle.intersection_set.specs.Within.{HeadOk, RemoveOk, Drained}
+use Rattle.intersection_set.specs.Within.{RemoveOk, Drained}
 use Rattle.intersection_set.proofs.Lengths.{SameSize, same-self, same-trans, sizes-remove, live-remove, drained-next, all-none, all-some}
 use Rattle.intersection_set.proofs.Removing.{drained, head-there, removed-holds, removed-beyond}
 use Rattle.intersection_set.proofs.intersection_set.remove_all.Statement.{statement}

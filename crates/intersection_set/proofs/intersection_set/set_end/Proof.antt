@@ -2,7 +2,7 @@
 use mathlib.Core.Path.{sym, _∙_, ap}
 use mathlib.Core.Logic.{_≢_}
 use borrow.Author.Tests.{eqb-false}
-use Rattle.index_edge.specs.Edge.{Edge, eqE}
+use Rattle.index_edge.specs.Edge.{eqE}
 use Rattle.index_edge.specs.Number.{edgeOf}
 use Rattle.intersection_set.specs.Lists.{none}
 use Rattle.intersection_set.specs.Pool.{setEnd}

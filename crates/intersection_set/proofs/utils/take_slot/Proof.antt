@@ -17,14 +17,17 @@ add-t12 c = search needs
 sub-last : tie.Need-sub-last
 sub-last c = search needs
 
-mul-t14 : tie.Need-mul-t14
-mul-t14 c = search needs
+mul-last : tie.Need-mul-last
+mul-last c = search needs
 
-shared-slice-read-t16 : tie.Need-shared-slice-read-t16
-shared-slice-read-t16 c = search needs
+shared-slice-read-last : tie.Need-shared-slice-read-last
+shared-slice-read-last c = search needs
 
-add-t18 : tie.Need-add-t18
-add-t18 c = search needs
+add-t14 : tie.Need-add-t14
+add-t14 c = search needs
+
+sub-t15 : tie.Need-sub-t15
+sub-t15 c = search needs
 
 returns : tie.Need-returns
 unfolding takeSlot
@@ -42,8 +45,9 @@ take-slot-spec =
     add-t11
     add-t12
     sub-last
-    mul-t14
-    shared-slice-read-t16
-    add-t18
+    mul-last
+    shared-slice-read-last
+    add-t14
+    sub-t15
     returns
     returns-2)
