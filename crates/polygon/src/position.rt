@@ -66,4 +66,19 @@ impl Position {
             }
         }
     }
+
+    // The same moves of a position that is lent.
+    pub fn move_next(&mut self)
+        requires { ⌜ now self .id .0 < now self .size ⌝ }
+        ensures { λ _. ⌜ now (self .exit) ≡ position (now (self .entry) .size) (next (now (self .entry) .size) (now (self .entry) .id .0)) ⌝ }
+    {
+        *self = self.next();
+    }
+
+    pub fn move_prev(&mut self)
+        requires { ⌜ now self .id .0 < now self .size ⌝ }
+        ensures { λ _. ⌜ now (self .exit) ≡ position (now (self .entry) .size) (prev (now (self .entry) .size) (now (self .entry) .id .0)) ⌝ }
+    {
+        *self = self.prev();
+    }
 }
