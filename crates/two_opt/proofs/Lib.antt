@@ -1,0 +1,3 @@
+pub mod Answering
+pub mod Checking
+pub mod Demand3Entries
