@@ -1,0 +1,40 @@
+-- What `tourjob` prints.
+use mathlib.Core.List.{List, [], _++_}
+use Prim.Native.Nat.{ℕ, zero, suc}
+use lib.ListN.{length}
+use lib.IntN.{ℤ}
+use Rattle.geometry.specs.Plane.{Point}
+use Rattle.geometry.specs.Lent.{points}
+use Rattle.polygon.specs.Ring.{at}
+use Rattle.job.specs.Ascii.{ascii}
+use Rattle.job.specs.Decimal.{decimal, integer}
+use Rattle.job.specs.Feed.{feedOf}
+use Rattle.job.specs.declared.report.Report.{Report}
+use Rattle.job.specs.declared.report.Report.the-variants.{Delivered, Stopped, Refused}
+
+-- the line `ok N moves M cross C feed F`
+unfoldable pub summary : (n m c f : ℕ) → List ℕ
+summary n m c f =
+    ascii "ok " ++ (decimal n ++ (ascii " moves " ++ (decimal m ++ (ascii " cross " ++ (decimal c ++ (ascii " feed " ++ (decimal f ++ ascii "\n")))))))
+
+-- the line `x y` of a point
+unfoldable pub pointLine : Point → List ℕ
+pointLine p = integer (p .x) ++ (ascii " " ++ (integer (p .y) ++ ascii "\n"))
+
+-- the lines of the first k ring positions
+unfoldable pub pointLines : List ℤ → List ℤ → List ℕ → ℕ → List ℕ
+pointLines x y ring zero = []
+pointLines x y ring (suc k) = pointLines x y ring k ++ pointLine (points x y (at ring k))
+
+-- the lines `refused K` and `refused 8 left L`
+unfoldable pub refusedLine : ℕ → List ℕ
+refusedLine k = ascii "refused " ++ (decimal k ++ ascii "\n")
+
+unfoldable pub stoppedLine : ℕ → List ℕ
+stoppedLine left = ascii "refused 8 left " ++ (decimal left ++ ascii "\n")
+
+-- the whole text of an answer, with the points and the loop
+unfoldable pub reportText : List ℤ → List ℤ → List ℕ → Report → List ℕ
+reportText x y ring (Delivered m c) = summary (length ring) m c (feedOf x y ring) ++ pointLines x y ring (length ring)
+reportText x y ring (Stopped left) = stoppedLine left
+reportText x y ring (Refused k) = refusedLine k
