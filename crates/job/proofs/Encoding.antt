@@ -10,12 +10,12 @@ use lib.ListN.{length, getD, set, take, drop, length-append}
 use lib.Seq.{take-suc, take-append-seam}
 use lib.IntN.{ℤ}
 use borrow.Author.Tests.{eq-eqb, ne-eqb, lt-ltb, le-ltb, ltb-false, eqb-true}
-use Rattle.algebra.specs.Cases.{not-false}
+use Rattle.algebra.specs.Cases.{both, eq-cases, not-false}
 use Rattle.geometry.specs.Lent.{coord}
 use Rattle.job.specs.Words.{word, wordBytes, bytesOf, bitsOf}
 use Rattle.job.specs.Buffers.{put, Put}
 use Rattle.job.specs.Encoded.{header, pairs, jobOf, jobLength, Made}
-use Rattle.job.proofs.Written.{put-is}
+use Rattle.job.proofs.Written.{put-is, length-put}
 
 -- ---- bytes of words
 pub length-bytes : (ws : List ℕ) → length (bytesOf ws) ≡ 4 * length ws
@@ -189,3 +189,14 @@ made-job {x} {y} {picks} {out} {out′} {r} g h =
     let room : 0 + length (jobOf x y picks) ≤ length out = omega (arith, f .room) in
     let e : r ≡ length (jobOf x y picks) = omega (arith, g .answer, f .is) in
     rw (w, put-is out 0 (jobOf x y picks) room, e) (take-append-seam (jobOf x y picks) (drop (0 + length (jobOf x y picks)) out))
+
+-- and fits it
+pub made-length : {x y : List ℤ} {picks out out′ : List ℕ} {r : ℕ} → Made x y picks out r out′ → (r ≤ length out′) × (r ≤ 16384)
+made-length {x} {y} {picks} {out} {out′} {r} g =
+    let l = jobLength (length x) (length y) (length picks) (length out) in
+    both (eq-cases l 0)
+    (λ e. (omega (arith, g .answer, e .0), omega (arith, g .answer, e .0)))
+    (λ e.
+    let f = fitting (length x) (length y) (length picks) (length out) (e .0) in
+    let w : out′ ≡ put out 0 (jobOf x y picks) = rw (e .1) at (g .bytes) in
+    (omega (arith, g .answer, f .is, f .room, ap length w ∙ length-put out 0 (jobOf x y picks)), omega (arith, g .answer, f .is, f .short)))

@@ -61,7 +61,7 @@ pub put-is : (l : List ℕ) (i : ℕ) (t : List ℕ) → i + length t ≤ length
 unfolding put
 put-is l i t h = sets-eq t l i h
 
-length-put : (l : List ℕ) (i : ℕ) (t : List ℕ) → length (put l i t) ≡ length l
+pub length-put : (l : List ℕ) (i : ℕ) (t : List ℕ) → length (put l i t) ≡ length l
 unfolding put
 length-put l i t = length-sets l i t
 

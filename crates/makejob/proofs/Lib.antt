@@ -1,0 +1,2 @@
+-- Numbers read digit by digit, up to a cap
+pub mod Capped
