@@ -1,5 +1,5 @@
 -- How long the printed lines are, and the steps by which they are written.
-use mathlib.Core.Path.{_≡_, refl}
+use mathlib.Core.Path.{_≡_}
 use mathlib.Core.List.{List, _++_}
 use Prim.Native.Nat.{ℕ, zero, suc, _+_, _*_, _≤_}
 use native.Mathlib.Omega.{arith}
@@ -9,27 +9,15 @@ use lib.IntN.{ℤ}
 use Rattle.geometry.specs.Plane.{Point}
 use Rattle.geometry.specs.Lent.{points}
 use Rattle.polygon.specs.Ring.{at}
-use Rattle.job.specs.Ascii.{ascii}
-use Rattle.job.specs.Decimal.{decimal}
 use Rattle.job.specs.Text.{summary, pointLine, pointLines, refusedLine, stoppedLine, reportText}
 use Rattle.job.specs.declared.report.Report.{Report}
 use Rattle.job.specs.declared.report.Report.the-variants.{Delivered, Stopped, Refused}
 use Rattle.job.specs.Feed.{feedOf}
 use Rattle.job.proofs.Decimals.{length-decimal, length-integer}
 
--- the summary as a row of a word and a number each
-pub summary-fields : (n m c f : ℕ) → summary n m c f
-    ≡ (ascii "ok " ++ decimal n) ++ ((ascii " moves " ++ decimal m) ++ ((ascii " cross " ++ decimal c) ++ ((ascii " feed " ++ decimal f) ++ ascii "\n")))
-unfolding summary
-summary-fields n m c f = refl
-
 pub length-summary : (n m c f : ℕ) → length (summary n m c f) ≤ 104
 unfolding summary
 length-summary n m c f = simp length-append (omega (arith, length-decimal n, length-decimal m, length-decimal c, length-decimal f))
-
-pub lines-none : (x y : List ℤ) (ring : List ℕ) → pointLines x y ring 0 ≡ ascii ""
-unfolding pointLines
-lines-none x y ring = refl
 
 pub lines-next : (x y : List ℤ) (ring : List ℕ) (k : ℕ) → pointLines x y ring (k + 1) ≡ pointLines x y ring k ++ pointLine (points x y (at ring k))
 unfolding pointLines

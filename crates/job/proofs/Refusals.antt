@@ -1,28 +1,24 @@
 -- The reader's checks: a line for each way out of them, and what holds of a job that passes them all.
-use mathlib.Core.Path.{_≡_, refl, sym, ap, _∙_}
-use mathlib.Core.Bool.{Bool, true, false, not, _&&_, _||_, cond}
+use mathlib.Core.Path.{_≡_, refl, sym, _∙_}
+use mathlib.Core.Bool.{Bool, true, false, not, _||_, cond}
 use mathlib.Core.List.{List}
-use Prim.Native.Nat.{ℕ, zero, suc, _+_, _*_, _≤_, _<_}
+use Prim.Native.Nat.{ℕ, suc, _+_, _*_, _≤_, _<_}
 use native.Mathlib.Omega.{arith}
 use lib.Dec.{ltb, eqb}
 use lib.IntN.{ℤ, pos, negsuc}
 use lib.ListN.{length}
 use borrow.Author.Tests.{lt-ltb, le-ltb, eq-eqb, ne-eqb, ltb-false, eqb-true, le-leb}
-use Rattle.algebra.specs.Cases.{never, or-no-left, or-no-right, not-false}
-use Rattle.algebra.specs.Ranges.{allBelow, true-all}
+use Rattle.algebra.specs.Cases.{or-no-left, or-no-right, not-false}
+use Rattle.algebra.specs.Ranges.{true-all}
 use Rattle.algebra.specs.Size.{abs}
 use Rattle.geometry.specs.Plane.{near}
-use Rattle.geometry.specs.Answers.{Answer, refused, answered}
-use Rattle.geometry.specs.Lent.{coord, Lent}
 use Rattle.job.specs.Words.{word, signed}
 use Rattle.job.specs.Steps.{steps}
 use Rattle.job.specs.Buffers.{over}
-use Rattle.job.specs.Job.{pointCount, pickCount, xAt, yAt, pickAt, outside, inRange, decide, refusal, accepted, answer, outcomeOf, Reading}
-use Rattle.job.specs.declared.reader.Outcome.{Outcome}
+use Rattle.job.specs.Job.{pointCount, xAt, yAt, outside, inRange, decide, refusal, accepted, answer, Reading}
 use Rattle.job.specs.declared.reader.Outcome.the-variants.{Read, Refused}
 use Rattle.job.proofs.TwosComplement.{Bytes, word-range}
 use Rattle.job.proofs.Rounding.{step-range}
-use Rattle.job.proofs.Written.{over-at, length-over}
 
 -- ---- check 3 is met by no job
 near-by : (z : ℤ) → abs z ≤ 1000000000 → near z ≡ true

@@ -10,12 +10,9 @@ use lib.IntN.{ℤ, pos}
 use lib.Signed.{mag}
 use borrow.Author.Tests.{le-ltb, eq-eqb}
 use Rattle.algebra.specs.Cases.{both, le-cases}
-use Rattle.algebra.specs.Ranges.{allBelow, true-all}
-use Rattle.algebra.specs.Size.{abs}
 use Rattle.geometry.specs.Answers.{answered}
 use Rattle.geometry.specs.Lent.{coord}
-use Rattle.geometry.specs.Plane.{near}
-use Rattle.job.specs.Words.{word, signed, bitsOf, bytesOf}
+use Rattle.job.specs.Words.{word, signed, bitsOf}
 use Rattle.job.specs.Steps.{steps}
 use Rattle.job.specs.Buffers.{over}
 use Rattle.job.specs.Job.{pointCount, pointStart, pickCount, pickStart, total, xAt, yAt, pickAt, outside, refusal, accepted, answer, outcomeOf, Reading}
@@ -24,7 +21,7 @@ use Rattle.job.specs.declared.reader.Outcome.{Outcome}
 use Rattle.job.proofs.Written.{table-is}
 use Rattle.job.proofs.TwosComplement.{Bytes, signed-bits, bits-small}
 use Rattle.job.proofs.Refusals.{no-refusal, of-words}
-use Rattle.job.proofs.Encoding.{Small, none, more, small-append, word-bytes, bytes-of-words, length-bytes, length-pairs, length-job, fitting, made-job}
+use Rattle.job.proofs.Encoding.{Small, none, more, small-append, word-bytes, bytes-of-words, length-pairs, length-job, fitting, made-job}
 
 -- every number fits 32 bits
 pub record Fit (l : List ℤ) : Type 0 where

@@ -1,6 +1,6 @@
 // The feed of a loop.
 ghost use mathlib.Core.Path.{_≡_};
-ghost use Prim.Native.Nat.{_≤_, _<_, _^_};
+ghost use Prim.Native.Nat.{_<_, _^_};
 ghost use lib.ListN.{length};
 ghost use lib.IntN.{natAbs, _-ℤ_};
 ghost use Rattle.polygon.specs.Ring.{next};

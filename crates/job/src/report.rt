@@ -1,5 +1,4 @@
 // The text of an answer.
-ghost use mathlib.Core.Path.{_≡_};
 ghost use Prim.Native.Nat.{_+_, _*_, _≤_};
 ghost use lib.ListN.{length};
 ghost use Rattle.job.specs.Buffers.{Put};
@@ -12,8 +11,8 @@ use super::text::put_text;
 
 // What is told of a job: its loop is delivered, its picks are used up with records left, or it is refused.
 pub enum Report {
-    Delivered { moves: u64, cross: u64 },
-    Stopped { left: u64 },
+    Delivered { moves: usize, cross: usize },
+    Stopped { left: usize },
     Refused(u8),
 }
 
@@ -81,10 +80,10 @@ pub fn put_report(report: Report, x: &[i32], y: &[i32], ring: &[u16], out: &mut 
     match report {
         Report::Delivered { moves, cross } => {
             let sum = feed(x, y, ring);
-            let p = put_summary(ring.len() as u64, moves, cross, sum, out, 0);
+            let p = put_summary(ring.len() as u64, moves as u64, cross as u64, sum, out, 0);
             put_points(x, y, ring, out, p)
         }
-        Report::Stopped { left } => put_stopped(left, out, 0),
+        Report::Stopped { left } => put_stopped(left as u64, out, 0),
         Report::Refused(k) => put_refused(k as u64, out, 0),
     }
 }

@@ -1,5 +1,4 @@
 // Texts and decimal numbers, written into a lent buffer. Each function writes from place `at` on and answers the place behind.
-ghost use mathlib.Core.Path.{_≡_};
 ghost use mathlib.Core.List.{_++_};
 ghost use Prim.Native.Nat.{_+_, _≤_};
 ghost use lib.ListN.{length};

@@ -1,15 +1,13 @@
 -- Numbers are read digit by digit, and told up to a cap that no test of their range sees.
 use mathlib.Core.Path.{_≡_, refl, sym, ap, _∙_}
-use mathlib.Core.Bool.{Bool, true, false, _&&_, cond}
+use mathlib.Core.Bool.{true, false, _&&_, cond}
 use mathlib.Core.List.{List, [], _∷_}
-use Prim.Native.Nat.{ℕ, suc, _+_, _-_, _*_, _^_, _≤_, _<_, min}
+use Prim.Native.Nat.{ℕ, _+_, _-_, _*_, _^_, _≤_, _<_, min}
 use native.Mathlib.Numerals.{add-one}
 use native.Mathlib.Omega.{arith}
-use lib.Dec.{leb, ltb}
 use lib.ListN.{length, getD, drop}
 use lib.Seq.{drop-cons}
-use lib.IntN.{pos, negℤ}
-use borrow.Author.Tests.{lt-ltb, le-ltb, le-leb, lt-leb}
+use borrow.Author.Tests.{le-ltb, lt-leb}
 use Rattle.algebra.specs.Cases.{both, le-cases, never}
 use Rattle.job.specs.Decimal.{isDigit, allDigits, valueFrom, value}
 use Rattle.makejob.specs.Numbers.{Parsed, malformed, outOfRange, number, natural, minusFirst, below, plus, minus, cap, capped}

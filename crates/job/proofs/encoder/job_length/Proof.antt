@@ -1,4 +1,4 @@
---
+-- `job_length` meets its contract: each way out is a line of `Encoding`.
 use Rattle.job.proofs.Encoding.{lengths-differ, many-points, long-job, small-room, job-fits}
 use borrow.Author.Needs.{needs}
 use Rattle.job.proofs.encoder.job_length.Statement.{statement}

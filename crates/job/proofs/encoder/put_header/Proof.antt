@@ -1,4 +1,4 @@
---
+-- `put_header` meets its contract: five words are written one after the other, each with room for the rest.
 use Prim.Native.Nat.{_+_, _≤_}
 use native.Mathlib.Omega.{arith}
 use lib.ListN.{length}

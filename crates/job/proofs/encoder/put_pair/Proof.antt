@@ -1,4 +1,4 @@
---
+-- `put_pair` meets its contract: two words are written one after the other.
 use mathlib.Core.Path.{ap, _∙_}
 use mir.Syntax.{w32}
 use mir.ValLaws.{toZ-ofZ}

@@ -1,4 +1,4 @@
---
+-- `put_pairs` meets its contract. The invariant: the first i points are written.
 use mathlib.Core.Path.{_≡_}
 use Prim.Native.Nat.{_-_, _≤_}
 use native.Mathlib.Omega.{arith}

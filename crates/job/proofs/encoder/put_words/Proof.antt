@@ -1,4 +1,4 @@
---
+-- `put_words` meets its contract. The invariant: the first i words are written.
 use mathlib.Core.Path.{_≡_, ap, _∙_}
 use Prim.Native.Nat.{_-_, _≤_}
 use native.Mathlib.Omega.{arith}

@@ -1,4 +1,4 @@
---
+-- `write_job` meets its contract: where the length is not 0 the three parts fit, and are written one after the other.
 use mathlib.Core.Path.{_≡_, _∙_}
 use Prim.Native.Nat.{ℕ}
 use native.Mathlib.Omega.{arith}

@@ -1,4 +1,4 @@
---
+-- `edge_at` meets its contract: both points are lent, and what is read of them is what they are.
 use mathlib.Core.Path.{_≡_, _∙_}
 use native.Mathlib.Omega.{arith}
 use lib.ListN.{length, getD}

@@ -1,4 +1,4 @@
---
+-- `feed` meets its contract. The invariant: the sum of the first i edges, each below 2³³.
 use mathlib.Core.Path.{_≡_, sym, ap, _∙_}
 use Prim.Native.Nat.{_-_, _*_, _≤_}
 use native.Mathlib.Omega.{arith}

@@ -1,9 +1,7 @@
---
+-- `stretch` meets its contract: the test says which of the two widths is the larger.
 use mathlib.Core.Path.{_≡_}
-use Prim.Native.Nat.{ℕ}
-use lib.IntN.{ℤ, natAbs, _-ℤ_}
+use lib.IntN.{natAbs, _-ℤ_}
 use mir.Syntax.{w32}
-use mir.Val.{toZ, ofZ}
 use mir.ValLaws.{toZ-ofZ}
 use Rattle.job.proofs.Feeds.{reach-first, reach-second}
 use borrow.Author.Needs.{needs}

@@ -1,4 +1,4 @@
---
+-- `width` meets its contract: the difference of two 32-bit numbers fits 64 bits, and so does its negative.
 use mathlib.Core.Path.{_≡_}
 use Prim.Native.Nat.{_<_, _^_}
 use native.Mathlib.Omega.{arith}

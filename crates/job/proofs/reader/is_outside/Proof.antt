@@ -1,3 +1,4 @@
+-- `is_outside` meets its contract: the two tests are those of `outside`.
 use borrow.Author.Needs.{needs}
 use borrow.Author.Tests.{lt-ltb, le-ltb}
 use Rattle.job.specs.Job.{outside}

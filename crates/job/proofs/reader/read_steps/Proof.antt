@@ -1,4 +1,4 @@
--- The invariant: x is the entry's x with its first i places written over.
+-- `read_steps` meets its contract. The invariant: the first i places of x are written over.
 use mathlib.Core.Path.{_≡_, refl, sym, ap, _∙_}
 use mathlib.Core.List.{List}
 use Prim.Native.Nat.{ℕ, _+_, _*_, _-_, _≤_, _<_}

@@ -1,11 +1,10 @@
--- The invariant: picks is the entry's list with its first i places written over.
+-- `read_words` meets its contract. The invariant: the first i places of picks are written over.
 use mathlib.Core.Path.{_≡_, refl, sym, _∙_}
 use mathlib.Core.List.{List}
 use Prim.Native.Nat.{ℕ, _+_, _*_, _-_, _≤_, _<_}
 use native.Mathlib.Omega.{arith}
 use lib.ListN.{length, length-set}
 use denote.Ref.{now}
-use borrow.Author.Needs.{needs}
 use Rattle.job.specs.Words.{word}
 use Rattle.job.specs.Buffers.{over}
 use Rattle.job.proofs.Written.{over-none, over-step, over-all}

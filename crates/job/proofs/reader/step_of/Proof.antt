@@ -1,3 +1,4 @@
+-- `step_of` meets its contract: the two ways are those of `Rounding`.
 use Prim.Native.Nat.{_+_, _-_, _/_}
 use native.Mathlib.Omega.{arith}
 use borrow.Author.Needs.{needs}

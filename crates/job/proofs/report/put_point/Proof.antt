@@ -1,8 +1,7 @@
---
-use mathlib.Core.List.{_∷_, []}
+-- `put_point` meets its contract: the parts of the line are written one after the other, each with room for the rest.
 use native.Mathlib.Omega.{arith}
 use Rattle.job.proofs.Written.{put-room, put-then}
-use Rattle.job.proofs.Decimals.{field-room, length-integer, length-decimal}
+use Rattle.job.proofs.Decimals.{length-integer}
 use Rattle.job.specs.Text.{pointLine}
 use Prim.Native.Nat.{_+_, _≤_}
 use lib.ListN.{length}

@@ -1,4 +1,4 @@
--- The invariant: the first i points are written.
+-- `put_points` meets its contract. The invariant: the lines of the first i ring positions are written.
 use mathlib.Core.Path.{_≡_}
 use Prim.Native.Nat.{_-_, _≤_}
 use native.Mathlib.Omega.{arith}

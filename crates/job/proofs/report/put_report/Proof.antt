@@ -1,5 +1,4 @@
 -- `put_report` meets its contract: in each arm the parts of the text are written one after the other.
-use mathlib.Core.Path.{_≡_, refl}
 use Prim.Native.Nat.{_+_, _*_, _≤_}
 use native.Mathlib.Omega.{arith}
 use lib.ListN.{length}

@@ -1,5 +1,4 @@
---
-use native.Mathlib.Omega.{arith}
+-- `put_stopped` meets its contract: the parts of the line are written one after the other.
 use Rattle.job.proofs.Written.{put-room, put-then}
 use Rattle.job.proofs.Decimals.{field-room}
 use Rattle.job.specs.Ascii.{ascii}

@@ -1,8 +1,7 @@
---
-use mathlib.Core.List.{_∷_, []}
+-- `put_summary` meets its contract: the fields are written one after the other, each with room for the rest.
 use native.Mathlib.Omega.{arith}
 use Rattle.job.proofs.Written.{put-room, put-then}
-use Rattle.job.proofs.Decimals.{field-room, length-integer, length-decimal}
+use Rattle.job.proofs.Decimals.{field-room}
 use Rattle.job.specs.Text.{summary}
 use Prim.Native.Nat.{_+_, _≤_}
 use lib.ListN.{length}

@@ -1,4 +1,4 @@
--- The measure is the number itself.
+-- `put_natural` meets its contract: the digits of the tenth part, and then the last digit. The measure is the number itself.
 use mathlib.Core.Path.{_∙_}
 use Prim.Native.Nat.{ℕ, _<_, _^_}
 use native.Mathlib.Omega.{arith}

@@ -1,8 +1,7 @@
---
-use mathlib.Core.List.{_∷_, []}
+-- `put_field` meets its contract: a number has at most twenty digits.
 use native.Mathlib.Omega.{arith}
-use Rattle.job.proofs.Written.{put-room, put-then}
-use Rattle.job.proofs.Decimals.{field-room, length-integer, length-decimal}
+use Rattle.job.proofs.Written.{put-then}
+use Rattle.job.proofs.Decimals.{length-decimal}
 use borrow.Author.Needs.{needs}
 use Rattle.job.proofs.text.put_field.Statement.{statement}
 use Rattle.job.proofs.text.put_field.Tie as tie

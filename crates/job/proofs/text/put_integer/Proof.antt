@@ -1,4 +1,4 @@
---
+-- `put_integer` meets its contract: by the sign, the digits of the size with or without a minus before them.
 use mathlib.Core.Path.{_≡_, refl, ap, _∙_}
 use mathlib.Core.List.{_∷_}
 use Prim.Native.Nat.{ℕ}

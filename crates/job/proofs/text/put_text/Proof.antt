@@ -1,4 +1,4 @@
--- The invariant: the first i bytes of the text are written.
+-- `put_text` meets its contract. The invariant: the first i bytes of the text are written.
 use mathlib.Core.Path.{_≡_, refl, sym, ap, _∙_}
 use Prim.Native.Nat.{_-_, _≤_}
 use native.Mathlib.Omega.{arith}

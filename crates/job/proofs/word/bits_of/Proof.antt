@@ -1,4 +1,4 @@
---
+-- `bits_of` meets its contract: a negative number of 32 bits is 2³² less its size.
 use mathlib.Core.Path.{_≡_}
 use Prim.Native.Nat.{_-_, _≤_, _<_}
 use native.Mathlib.Omega.{arith}

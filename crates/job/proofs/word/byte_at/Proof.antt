@@ -1,3 +1,4 @@
+-- `byte_at` meets its contract: a byte is below 256.
 use mathlib.Core.Path.{refl}
 use native.Mathlib.Omega.{arith}
 use borrow.Author.Needs.{needs}

@@ -1,3 +1,4 @@
+-- `magnitude` meets its contract: the negative of a 32-bit number fits 64 bits.
 use mathlib.Core.Path.{_≡_}
 use lib.Dec.{T}
 use lib.IntN.{ℤ, pos, natAbs, _-ℤ_}

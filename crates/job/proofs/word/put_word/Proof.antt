@@ -1,4 +1,4 @@
---
+-- `put_word` meets its contract: the four bytes are written one after the other.
 use native.Mathlib.Omega.{arith}
 use lib.ListN.{length-set}
 use denote.Ref.{now}

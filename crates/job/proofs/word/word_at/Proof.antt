@@ -1,3 +1,4 @@
+-- `word_at` meets its contract: four bytes make a number below 2³².
 use native.Mathlib.Omega.{arith}
 use borrow.Author.Needs.{needs}
 use Rattle.job.specs.Words.{word}

@@ -2,7 +2,7 @@
 use mathlib.Core.Path.{_≡_, refl}
 use mathlib.Core.Bool.{false}
 use mathlib.Core.List.{List, [], _∷_}
-use Prim.Native.Nat.{ℕ, _<_}
+use Prim.Native.Nat.{ℕ}
 use native.Mathlib.Omega.{arith}
 use lib.Dec.{eqb}
 use lib.ListN.{length, getD}

@@ -1,6 +1,6 @@
 -- `opposite` meets its contract: a number that is not 0 is one more than its predecessor.
 use mathlib.Core.Path.{_≡_, refl, sym, ap, _∙_}
-use Prim.Native.Nat.{ℕ, zero, suc, _-_, _^_, _≤_, _<_}
+use Prim.Native.Nat.{ℕ, zero, suc, _-_, _^_, _<_}
 use native.Mathlib.Omega.{arith}
 use lib.IntN.{pos, negsuc, negℤ, _-ℤ_}
 use mir.Syntax.{w32}

@@ -1,5 +1,5 @@
 -- `read_natural` meets its contract: each way out is a line of `Capped`.
-use mathlib.Core.Path.{_≡_, sym, ap, _∙_}
+use mathlib.Core.Path.{sym, ap, _∙_}
 use denote.Ref.{now}
 use Rattle.algebra.specs.Cases.{not-true, not-false}
 use Rattle.makejob.specs.Numbers.{capped, number}

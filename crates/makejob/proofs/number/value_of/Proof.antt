@@ -1,8 +1,8 @@
 -- `value_of` meets its contract. The invariant: v with the digits from i on means what the field means, up to the cap.
-use mathlib.Core.Path.{_≡_, refl, sym, ap, _∙_}
+use mathlib.Core.Path.{_≡_, refl, _∙_}
 use Prim.Native.Nat.{_-_, _≤_, min}
 use native.Mathlib.Omega.{arith}
-use lib.ListN.{length, getD, drop}
+use lib.ListN.{length, drop}
 use lib.Seq.{drop-length}
 use denote.Ref.{now}
 use borrow.Author.Needs.{needs}
