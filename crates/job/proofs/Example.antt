@@ -3,6 +3,7 @@ use mathlib.Core.Path.{_≡_, refl}
 use mathlib.Core.List.{List, [], _∷_, _++_}
 use Prim.Native.Nat.{ℕ}
 use lib.IntN.{ℤ, pos}
+use Rattle.geometry.specs.Lent.{points}
 use Rattle.geometry.specs.Answers.{answered}
 use Rattle.job.specs.Ascii.{ascii}
 use Rattle.job.specs.Words.{word, signed, wordBytes, bytesOf, bitsOf}
@@ -12,7 +13,7 @@ use Rattle.job.specs.Job.{xAt, yAt, pickAt, outside, inRange, decide, re
 use Rattle.job.specs.Encoded.{header, pairs, jobOf}
 use Rattle.job.specs.Decimal.{digits, decimal, integer}
 use Rattle.job.specs.Feed.{reach, edgeFeed, feedTo}
-use Rattle.job.specs.Text.{summary, pointLine, pointLines, reportText}
+use Rattle.job.specs.Text.{summary, pointLine, pointLines, loopLines, reportText}
 use Rattle.job.specs.declared.report.Report.the-variants.{Delivered}
 
 -- (0,0), (100,100), (100,0), (0,100) and the pick 7, with the offsets 20 and 52 and the total 56
@@ -49,6 +50,6 @@ pub read-pick : pickAt job 0 ≡ 7
 unfolding word bytesOf wordBytes
 read-pick = refl
 
-pub printed : reportText x y (0 ∷ 2 ∷ 1 ∷ 3 ∷ []) (Delivered 1 1) ≡ ascii "ok 4 moves 1 cross 1 feed 40\n0 0\n10 0\n10 10\n0 10\n"
-unfolding reportText summary pointLines pointLine integer decimal digits feedTo edgeFeed reach
+pub printed : reportText (points x y) (0 ∷ 2 ∷ 1 ∷ 3 ∷ []) (Delivered 1 1) ≡ ascii "ok 4 moves 1 cross 1 feed 40\n0 0\n10 0\n10 10\n0 10\n"
+unfolding reportText loopLines summary pointLines pointLine integer decimal digits feedTo edgeFeed reach
 printed = refl

@@ -4,7 +4,7 @@ use mathlib.Core.List.{List}
 use Prim.Native.Nat.{ℕ, _+_, _≤_, _<_}
 use native.Mathlib.Omega.{arith}
 use native.Mathlib.Numerals.{add-one}
-use lib.IntN.{ℤ, natAbs, _-ℤ_}
+use lib.IntN.{natAbs, _-ℤ_}
 use Rattle.geometry.specs.Plane.{Point}
 use Rattle.job.specs.Feed.{reach, edgeFeed, feedTo}
 
@@ -16,10 +16,10 @@ pub reach-first : (a b : Point) {p q : ℕ} → p ≡ natAbs (a .x -ℤ b .x) �
 unfolding reach
 reach-first a b e g h = rw (← e, ← g) (omega arith)
 
-pub feed-none : (x y : List ℤ) (ring : List ℕ) → feedTo x y ring 0 ≡ 0
+pub feed-none : (pt : ℕ → Point) (ring : List ℕ) → feedTo pt ring 0 ≡ 0
 unfolding feedTo
-feed-none x y ring = refl
+feed-none pt ring = refl
 
-pub feed-step : (x y : List ℤ) (ring : List ℕ) (i : ℕ) {s e : ℕ} → s ≡ feedTo x y ring i → e ≡ edgeFeed x y ring i → s + e ≡ feedTo x y ring (i + 1)
+pub feed-step : (pt : ℕ → Point) (ring : List ℕ) (i : ℕ) {s e : ℕ} → s ≡ feedTo pt ring i → e ≡ edgeFeed pt ring i → s + e ≡ feedTo pt ring (i + 1)
 unfolding feedTo
-feed-step x y ring i g h = rw (add-one, g, h)
+feed-step pt ring i g h = rw (add-one, g, h)

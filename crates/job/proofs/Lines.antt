@@ -5,11 +5,9 @@ use Prim.Native.Nat.{ℕ, zero, suc, _+_, _*_, _≤_}
 use native.Mathlib.Omega.{arith}
 use native.Mathlib.Numerals.{add-one}
 use lib.ListN.{length, length-append}
-use lib.IntN.{ℤ}
 use Rattle.geometry.specs.Plane.{Point}
-use Rattle.geometry.specs.Lent.{points}
 use Rattle.polygon.specs.Ring.{at}
-use Rattle.job.specs.Text.{summary, pointLine, pointLines, refusedLine, stoppedLine, reportText}
+use Rattle.job.specs.Text.{summary, pointLine, pointLines, refusedLine, stoppedLine, loopLines, reportText}
 use Rattle.job.specs.declared.report.Report.{Report}
 use Rattle.job.specs.declared.report.Report.the-variants.{Delivered, Stopped, Refused}
 use Rattle.job.specs.Feed.{feedOf}
@@ -19,21 +17,21 @@ pub length-summary : (n m c f : ℕ) → length (summary n m c f) ≤ 104
 unfolding summary
 length-summary n m c f = simp length-append (omega (arith, length-decimal n, length-decimal m, length-decimal c, length-decimal f))
 
-pub lines-next : (x y : List ℤ) (ring : List ℕ) (k : ℕ) → pointLines x y ring (k + 1) ≡ pointLines x y ring k ++ pointLine (points x y (at ring k))
+pub lines-next : (pt : ℕ → Point) (ring : List ℕ) (k : ℕ) → pointLines pt ring (k + 1) ≡ pointLines pt ring k ++ pointLine (pt (at ring k))
 unfolding pointLines
-lines-next x y ring k = rw add-one
+lines-next pt ring k = rw add-one
 
-pub length-line : (p : Point) → length (pointLine p) ≤ 44
+length-line : (p : Point) → length (pointLine p) ≤ 44
 unfolding pointLine
 length-line p = simp length-append (omega (arith, length-integer (p .x), length-integer (p .y)))
 
-pub length-lines : (x y : List ℤ) (ring : List ℕ) (k : ℕ) → length (pointLines x y ring k) ≤ 44 * k
+pub length-lines : (pt : ℕ → Point) (ring : List ℕ) (k : ℕ) → length (pointLines pt ring k) ≤ 44 * k
 unfolding pointLines
-length-lines x y ring zero = omega arith
-length-lines x y ring (suc k) = rw length-append (omega (arith, length-lines x y ring k, length-line (points x y (at ring k))))
+length-lines pt ring zero = omega arith
+length-lines pt ring (suc k) = rw length-append (omega (arith, length-lines pt ring k, length-line (pt (at ring k))))
 
-pub length-report : (x y : List ℤ) (ring : List ℕ) (r : Report) → length (reportText x y ring r) ≤ 104 + 44 * length ring
-unfolding reportText refusedLine stoppedLine
-length-report x y ring (Delivered m c) = rw length-append (omega (arith, length-summary (length ring) m c (feedOf x y ring), length-lines x y ring (length ring)))
-length-report x y ring (Stopped left) = simp length-append (omega (arith, length-decimal left))
-length-report x y ring (Refused k) = simp length-append (omega (arith, length-decimal k))
+pub length-report : (pt : ℕ → Point) (ring : List ℕ) (r : Report) → length (reportText pt ring r) ≤ 104 + 44 * length ring
+unfolding reportText loopLines refusedLine stoppedLine
+length-report pt ring (Delivered m c) = rw length-append (omega (arith, length-summary (length ring) m c (feedOf pt ring), length-lines pt ring (length ring)))
+length-report pt ring (Stopped left) = simp length-append (omega (arith, length-decimal left))
+length-report pt ring (Refused k) = simp length-append (omega (arith, length-decimal k))

@@ -4,7 +4,6 @@ use Prim.Native.Nat.{ℕ, zero, suc, _+_, max, _≤_, _<_}
 use lib.ListN.{length}
 use lib.IntN.{ℤ, natAbs, _-ℤ_}
 use Rattle.geometry.specs.Plane.{Point}
-use Rattle.geometry.specs.Lent.{points}
 use Rattle.polygon.specs.Ring.{next, at}
 
 -- the larger of |dx| and |dy|
@@ -12,16 +11,16 @@ unfoldable pub reach : Point → Point → ℕ
 reach a b = max (natAbs (a .x -ℤ b .x)) (natAbs (a .y -ℤ b .y))
 
 -- the edge from ring position i to the next
-unfoldable pub edgeFeed : List ℤ → List ℤ → List ℕ → ℕ → ℕ
-edgeFeed x y ring i = reach (points x y (at ring i)) (points x y (at ring (next (length ring) i)))
+unfoldable pub edgeFeed : (ℕ → Point) → List ℕ → ℕ → ℕ
+edgeFeed pt ring i = reach (pt (at ring i)) (pt (at ring (next (length ring) i)))
 
 -- the edges from the first k positions
-unfoldable pub feedTo : List ℤ → List ℤ → List ℕ → ℕ → ℕ
-feedTo x y ring zero = 0
-feedTo x y ring (suc k) = feedTo x y ring k + edgeFeed x y ring k
+unfoldable pub feedTo : (ℕ → Point) → List ℕ → ℕ → ℕ
+feedTo pt ring zero = 0
+feedTo pt ring (suc k) = feedTo pt ring k + edgeFeed pt ring k
 
-abbrev pub feedOf : List ℤ → List ℤ → List ℕ → ℕ
-feedOf x y ring = feedTo x y ring (length ring)
+abbrev pub feedOf : (ℕ → Point) → List ℕ → ℕ
+feedOf pt ring = feedTo pt ring (length ring)
 
 -- A loop whose feed and points can be told: at most 256 positions, and every point that it names is lent.
 pub record Drawn (x y : List ℤ) (ring : List ℕ) : Type 0 where

@@ -2,9 +2,7 @@
 use mathlib.Core.List.{List, [], _++_}
 use Prim.Native.Nat.{ℕ, zero, suc}
 use lib.ListN.{length}
-use lib.IntN.{ℤ}
 use Rattle.geometry.specs.Plane.{Point}
-use Rattle.geometry.specs.Lent.{points}
 use Rattle.polygon.specs.Ring.{at}
 use Rattle.job.specs.Ascii.{ascii}
 use Rattle.job.specs.Decimal.{decimal, integer}
@@ -22,9 +20,9 @@ unfoldable pub pointLine : Point → List ℕ
 pointLine p = integer (p .x) ++ (ascii " " ++ (integer (p .y) ++ ascii "\n"))
 
 -- the lines of the first k ring positions
-unfoldable pub pointLines : List ℤ → List ℤ → List ℕ → ℕ → List ℕ
-pointLines x y ring zero = []
-pointLines x y ring (suc k) = pointLines x y ring k ++ pointLine (points x y (at ring k))
+unfoldable pub pointLines : (ℕ → Point) → List ℕ → ℕ → List ℕ
+pointLines pt ring zero = []
+pointLines pt ring (suc k) = pointLines pt ring k ++ pointLine (pt (at ring k))
 
 -- the lines `refused K` and `refused 8 left L`
 unfoldable pub refusedLine : ℕ → List ℕ
@@ -33,8 +31,12 @@ refusedLine k = ascii "refused " ++ (decimal k ++ ascii "\n")
 unfoldable pub stoppedLine : ℕ → List ℕ
 stoppedLine left = ascii "refused 8 left " ++ (decimal left ++ ascii "\n")
 
--- the whole text of an answer, with the points and the loop
-unfoldable pub reportText : List ℤ → List ℤ → List ℕ → Report → List ℕ
-reportText x y ring (Delivered m c) = summary (length ring) m c (feedOf x y ring) ++ pointLines x y ring (length ring)
-reportText x y ring (Stopped left) = stoppedLine left
-reportText x y ring (Refused k) = refusedLine k
+-- the lines of a delivered loop
+unfoldable pub loopLines : (ℕ → Point) → List ℕ → (moves cross : ℕ) → List ℕ
+loopLines pt ring moves cross = summary (length ring) moves cross (feedOf pt ring) ++ pointLines pt ring (length ring)
+
+-- the whole text of an answer, with the points by number and the loop
+unfoldable pub reportText : (ℕ → Point) → List ℕ → Report → List ℕ
+reportText pt ring (Delivered moves cross) = loopLines pt ring moves cross
+reportText pt ring (Stopped left) = stoppedLine left
+reportText pt ring (Refused k) = refusedLine k

@@ -3,6 +3,7 @@ ghost use mathlib.Core.Path.{_≡_};
 ghost use Prim.Native.Nat.{_<_, _^_};
 ghost use lib.ListN.{length};
 ghost use lib.IntN.{natAbs, _-ℤ_};
+ghost use Rattle.geometry.specs.Lent.{points};
 ghost use Rattle.polygon.specs.Ring.{next};
 ghost use Rattle.job.specs.Feed.{reach, edgeFeed, feedOf, Drawn};
 
@@ -43,7 +44,7 @@ fn next_place(n: usize, i: usize) -> usize
 // The edge from ring position i to the next.
 fn edge_at(x: &[i32], y: &[i32], ring: &[u16], i: usize) -> u64
     requires { ⌜ Drawn (now x) (now y) (now ring) × (i < length (now ring)) ⌝ }
-    ensures { λ r. ⌜ (r ≡ edgeFeed (now (x .entry)) (now (y .entry)) (now (ring .entry)) i) × (r < 2 ^ 33) ⌝ }
+    ensures { λ r. ⌜ (r ≡ edgeFeed (points (now (x .entry)) (now (y .entry))) (now (ring .entry)) i) × (r < 2 ^ 33) ⌝ }
 {
     let j = next_place(ring.len(), i);
     let a = ring[i] as usize;
@@ -53,7 +54,7 @@ fn edge_at(x: &[i32], y: &[i32], ring: &[u16], i: usize) -> u64
 
 pub fn feed(x: &[i32], y: &[i32], ring: &[u16]) -> u64
     requires { ⌜ Drawn (now x) (now y) (now ring) ⌝ }
-    ensures { λ r. ⌜ r ≡ feedOf (now (x .entry)) (now (y .entry)) (now (ring .entry)) ⌝ }
+    ensures { λ r. ⌜ r ≡ feedOf (points (now (x .entry)) (now (y .entry))) (now (ring .entry)) ⌝ }
 {
     let mut sum = 0u64;
     let mut i = 0usize;

@@ -1,6 +1,7 @@
 // The text of an answer.
 ghost use Prim.Native.Nat.{_+_, _*_, _≤_};
 ghost use lib.ListN.{length};
+ghost use Rattle.geometry.specs.Lent.{points};
 ghost use Rattle.job.specs.Buffers.{Put};
 ghost use Rattle.job.specs.Feed.{Drawn};
 ghost use Rattle.job.specs.Text.{summary, pointLine, pointLines, refusedLine, stoppedLine, reportText};
@@ -60,7 +61,7 @@ fn put_point(x: i32, y: i32, out: &mut [u8], at: usize) -> usize
 // The lines of the points by ring position.
 fn put_points(x: &[i32], y: &[i32], ring: &[u16], out: &mut [u8], at: usize) -> usize
     requires { ⌜ Drawn (now x) (now y) (now ring) × (at + 44 * length (now ring) ≤ length (now out)) ⌝ }
-    ensures { λ r. ⌜ Put (now (out .entry)) at (pointLines (now (x .entry)) (now (y .entry)) (now (ring .entry)) (length (now (ring .entry)))) r (now (out .exit)) ⌝ }
+    ensures { λ r. ⌜ Put (now (out .entry)) at (pointLines (points (now (x .entry)) (now (y .entry))) (now (ring .entry)) (length (now (ring .entry)))) r (now (out .exit)) ⌝ }
 {
     let mut p = at;
     let mut i = 0usize;
@@ -75,7 +76,7 @@ fn put_points(x: &[i32], y: &[i32], ring: &[u16], out: &mut [u8], at: usize) -> 
 // Writes an answer's text to the start of `out`, and answers its length. `ring` is the loop that is delivered, or empty.
 pub fn put_report(report: Report, x: &[i32], y: &[i32], ring: &[u16], out: &mut [u8]) -> usize
     requires { ⌜ Drawn (now x) (now y) (now ring) × (104 + 44 * length (now ring) ≤ length (now out)) ⌝ }
-    ensures { λ n. ⌜ Put (now (out .entry)) 0 (reportText (now (x .entry)) (now (y .entry)) (now (ring .entry)) report) n (now (out .exit)) ⌝ }
+    ensures { λ n. ⌜ Put (now (out .entry)) 0 (reportText (points (now (x .entry)) (now (y .entry))) (now (ring .entry)) report) n (now (out .exit)) ⌝ }
 {
     match report {
         Report::Delivered { moves, cross } => {

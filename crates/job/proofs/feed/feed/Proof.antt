@@ -4,19 +4,20 @@ use Prim.Native.Nat.{_-_, _*_, _≤_}
 use native.Mathlib.Omega.{arith}
 use lib.ListN.{length}
 use denote.Ref.{now}
+use Rattle.geometry.specs.Lent.{points}
 use Rattle.job.specs.Feed.{feedTo}
 use Rattle.job.proofs.Feeds.{feed-none, feed-step}
 use Rattle.job.proofs.feed.feed.Statement.{statement}
 use Rattle.job.proofs.feed.feed.Tie as tie
 
 abbrev Inv-loop : tie.InvT-loop
-Inv-loop x y ring sum₀ i₀ sum i = (i ≤ length ring) × (sum ≤ 8589934592 * i) × (sum ≡ feedTo x y ring i)
+Inv-loop x y ring sum₀ i₀ sum i = (i ≤ length ring) × (sum ≤ 8589934592 * i) × (sum ≡ feedTo (points x y) ring i)
 
 abbrev μ-loop : tie.MeasureT-loop
 μ-loop x y ring sum₀ i₀ sum i = length ring - i
 
 loop-holds : tie.Need-loop-holds Inv-loop μ-loop
-loop-holds c = let a = c .before .args in (omega arith, omega arith, sym (feed-none (now (a .x)) (now (a .y)) (now (a .ring))))
+loop-holds c = let a = c .before .args in (omega arith, omega arith, sym (feed-none (points (now (a .x)) (now (a .y))) (now (a .ring))))
 
 edge-at-requires : tie.Need-edge-at-requires Inv-loop μ-loop
 edge-at-requires c κs = (c .before .before .before .pre, c .loop-test .taken)
@@ -34,14 +35,14 @@ loop-again : tie.Need-loop-again Inv-loop μ-loop
 loop-again c =
     let l = c .before .before .loop in
     let a = c .before .before .before .before .args in
-    (omega arith, omega arith, feed-step (now (a .x)) (now (a .y)) (now (a .ring)) (l .i) (l .inv .2) (c .edge-at .ensures .0))
+    (omega arith, omega arith, feed-step (points (now (a .x)) (now (a .y))) (now (a .ring)) (l .i) (l .inv .2) (c .edge-at .ensures .0))
 
 returns : tie.Need-returns Inv-loop μ-loop
 returns c =
     let l = c .before .loop in
     let a = c .before .before .before .args in
     let e : l .i ≡ length (now (a .ring)) = omega arith in
-    l .inv .2 ∙ ap (feedTo (now (a .x)) (now (a .y)) (now (a .ring))) e
+    l .inv .2 ∙ ap (feedTo (points (now (a .x)) (now (a .y))) (now (a .ring))) e
 
 pub feed-spec : {M : Type 1} → statement M
 feed-spec =

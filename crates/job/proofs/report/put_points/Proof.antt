@@ -17,7 +17,7 @@ use Rattle.job.proofs.report.put_points.Statement.{statement}
 use Rattle.job.proofs.report.put_points.Tie as tie
 
 abbrev Inv-loop : tie.InvT-loop
-Inv-loop x y ring out₀ at p₀ i₀ out p i = (i ≤ length ring) × Put out₀ at (pointLines x y ring i) p out
+Inv-loop x y ring out₀ at p₀ i₀ out p i = (i ≤ length ring) × Put out₀ at (pointLines (points x y) ring i) p out
 
 abbrev μ-loop : tie.MeasureT-loop
 μ-loop x y ring out₀ at p₀ i₀ out p i = length ring - i
@@ -51,7 +51,7 @@ put-point-requires : tie.Need-put-point-requires Inv-loop μ-loop
 put-point-requires c κs =
     let l = c .before .before .before .before .before .loop in
     let a = c .before .before .before .before .before .before .before .before .args in
-    omega (arith, l .inv .1 .next, put-length (l .inv .1), length-lines (now (a .x)) (now (a .y)) (now (a .ring)) (l .i))
+    omega (arith, l .inv .1 .next, put-length (l .inv .1), length-lines (points (now (a .x)) (now (a .y))) (now (a .ring)) (l .i))
 
 add-i : tie.Need-add-i Inv-loop μ-loop
 add-i c = omega arith
@@ -67,7 +67,7 @@ loop-again c =
     let ex : toZ w32 (ofZ w32 (getD (now (a .x)) k (pos 0))) ≡ getD (now (a .x)) k (pos 0) = search needs in
     let ey : toZ w32 (ofZ w32 (getD (now (a .y)) k (pos 0))) ≡ getD (now (a .y)) k (pos 0) = search needs in
     let p : Put (l .out) (l .p) (pointLine (points (now (a .x)) (now (a .y)) k)) (c .before .before .put-point .result) (c .before .before .put-point .last .1 .1 .0) = rw (ex, ey) at (c .before .before .put-point .ensures) in
-    (omega arith, rw (lines-next (now (a .x)) (now (a .y)) (now (a .ring)) (l .i)) (put-then (l .inv .1) p))
+    (omega arith, rw (lines-next (points (now (a .x)) (now (a .y))) (now (a .ring)) (l .i)) (put-then (l .inv .1) p))
 
 same-length : tie.Need-same-length Inv-loop μ-loop
 same-length c = put-length (c .before .loop .inv .1)

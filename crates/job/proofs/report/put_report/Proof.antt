@@ -4,7 +4,7 @@ use native.Mathlib.Omega.{arith}
 use lib.ListN.{length}
 use denote.Ref.{now}
 use borrow.Author.Needs.{needs}
-use Rattle.job.specs.Text.{reportText}
+use Rattle.job.specs.Text.{loopLines, reportText}
 use Rattle.job.proofs.Written.{put-room, put-then}
 use Rattle.job.proofs.Lines.{length-summary}
 use Rattle.job.proofs.report.put_report.Statement.{statement}
@@ -46,7 +46,7 @@ same-length : tie.Need-same-length
 same-length c = search needs
 
 returns : tie.Need-returns
-unfolding reportText
+unfolding reportText loopLines
 returns c = rw (c .before .before .before .before .before .before .before .before .before .before .report .given .1, ← c .before .before .before .before .before .before .before .before .feed .ensures) (put-then (c .before .before .before .before .before .before .put-summary .ensures) (c .before .before .put-points .ensures))
 
 same-length-2 : tie.Need-same-length-2
