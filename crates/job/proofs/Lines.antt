@@ -7,10 +7,7 @@ use native.Mathlib.Numerals.{add-one}
 use lib.ListN.{length, length-append}
 use Rattle.geometry.specs.Plane.{Point}
 use Rattle.polygon.specs.Ring.{at}
-use Rattle.job.specs.Text.{summary, pointLine, pointLines, refusedLine, stoppedLine, loopLines, reportText}
-use Rattle.job.specs.declared.report.Report.{Report}
-use Rattle.job.specs.declared.report.Report.the-variants.{Delivered, Stopped, Refused}
-use Rattle.job.specs.Feed.{feedOf}
+use Rattle.job.specs.Text.{summary, pointLine, pointLines, refusedLine, stoppedLine}
 use Rattle.job.proofs.Decimals.{length-decimal, length-integer}
 
 pub length-summary : (n m c f : ℕ) → length (summary n m c f) ≤ 104
@@ -30,8 +27,10 @@ unfolding pointLines
 length-lines pt ring zero = omega arith
 length-lines pt ring (suc k) = rw length-append (omega (arith, length-lines pt ring k, length-line (pt (at ring k))))
 
-pub length-report : (pt : ℕ → Point) (ring : List ℕ) (r : Report) → length (reportText pt ring r) ≤ 104 + 44 * length ring
-unfolding reportText loopLines refusedLine stoppedLine
-length-report pt ring (Delivered m c) = rw length-append (omega (arith, length-summary (length ring) m c (feedOf pt ring), length-lines pt ring (length ring)))
-length-report pt ring (Stopped left) = simp length-append (omega (arith, length-decimal left))
-length-report pt ring (Refused k) = simp length-append (omega (arith, length-decimal k))
+pub length-refused : (k : ℕ) → length (refusedLine k) ≤ 29
+unfolding refusedLine
+length-refused k = simp length-append (omega (arith, length-decimal k))
+
+pub length-stopped : (left : ℕ) → length (stoppedLine left) ≤ 36
+unfolding stoppedLine
+length-stopped left = simp length-append (omega (arith, length-decimal left))

@@ -22,6 +22,7 @@ use Rattle.job.proofs.Written.{over-at, length-over}
 
 -- A job that was read: n points and m picks stand at the buffers' start, and it passed every check.
 pub record WasRead (job : List ℕ) (x y : List ℤ) (picks : List ℕ) (n m : ℕ) (x′ y′ : List ℤ) (picks′ : List ℕ) : Type 0 where
+  pub number : refusal job (length x) (length y) (length picks) ≡ 0
   pub checks : Accepted (length job) n (word job 4) m (word job 12) (word job 16) (inRange job) (length x) (length y) (length picks)
   pub points-are : pointCount job ≡ n
   pub picks-are : pickCount job ≡ m
@@ -60,6 +61,7 @@ module _ (job : List ℕ) (x y : List ℤ) (picks : List ℕ) {r : Outcome} {x�
       let en : pointCount job ≡ n = sym (ap points-of h) in
       let em : pickCount job ≡ m = sym (ap picks-of h) in
       record {
+        number = zero;
         checks = rw (en, em) at (accepted-job job (length x) (length y) (length picks) zero);
         points-are = en;
         picks-are = em;

@@ -108,3 +108,7 @@ put-length {l} {l′} {t} {i} p = ap length (p .text) ∙ length-put l i t
 -- room for j bytes more behind a text of at most k
 pub put-room : {l l′ t : List ℕ} {i r : ℕ} (k j : ℕ) → Put l i t r l′ → length t ≤ k → i + (k + j) ≤ length l → r + j ≤ length l′
 put-room k j p b h = omega (arith, p .next, put-length p)
+
+-- a text that fits ends within the buffer
+pub put-within : {l l′ t : List ℕ} {i r : ℕ} → Put l i t r l′ → i + length t ≤ length l → r ≤ length l′
+put-within p h = omega (arith, p .next, put-length p)

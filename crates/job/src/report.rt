@@ -77,6 +77,7 @@ fn put_points(x: &[i32], y: &[i32], ring: &[u16], out: &mut [u8], at: usize) -> 
 pub fn put_report(report: Report, x: &[i32], y: &[i32], ring: &[u16], out: &mut [u8]) -> usize
     requires { ⌜ Drawn (now x) (now y) (now ring) × (104 + 44 * length (now ring) ≤ length (now out)) ⌝ }
     ensures { λ n. ⌜ Put (now (out .entry)) 0 (reportText (points (now (x .entry)) (now (y .entry))) (now (ring .entry)) report) n (now (out .exit)) ⌝ }
+    ensures within { λ n. ⌜ n ≤ length (now (out .exit)) ⌝ }
 {
     match report {
         Report::Delivered { moves, cross } => {

@@ -1,12 +1,13 @@
 -- `put_report` meets its contract: in each arm the parts of the text are written one after the other.
 use Prim.Native.Nat.{_+_, _*_, _≤_}
 use native.Mathlib.Omega.{arith}
-use lib.ListN.{length}
+use lib.ListN.{length, length-append}
 use denote.Ref.{now}
 use borrow.Author.Needs.{needs}
+use Rattle.geometry.specs.Lent.{points}
 use Rattle.job.specs.Text.{loopLines, reportText}
-use Rattle.job.proofs.Written.{put-room, put-then}
-use Rattle.job.proofs.Lines.{length-summary}
+use Rattle.job.proofs.Written.{put-room, put-then, put-within}
+use Rattle.job.proofs.Lines.{length-summary, length-lines, length-stopped, length-refused}
 use Rattle.job.proofs.report.put_report.Statement.{statement}
 use Rattle.job.proofs.report.put_report.Tie as tie
 
@@ -47,21 +48,35 @@ same-length c = search needs
 
 returns : tie.Need-returns
 unfolding reportText loopLines
-returns c = rw (c .before .before .before .before .before .before .before .before .before .before .report .given .1, ← c .before .before .before .before .before .before .before .before .feed .ensures) (put-then (c .before .before .before .before .before .before .put-summary .ensures) (c .before .before .put-points .ensures))
+returns c =
+    let a = c .before .before .before .before .before .before .before .before .before .before .before .before .before .before .args in
+    let n = length (now (a .ring)) in
+    let v = c .before .before .before .before .before .before .before .before .before .before .report .given .0 in
+    let t = put-then (c .before .before .before .before .before .before .put-summary .ensures) (c .before .before .put-points .ensures) in (
+      rw (c .before .before .before .before .before .before .before .before .before .before .report .given .1, ← c .before .before .before .before .before .before .before .before .feed .ensures) t,
+      put-within t
+          (rw length-append
+          (omega (
+            arith,
+            c .before .before .before .before .before .before .before .before .before .before .before .before .before .before .pre .1,
+            length-summary n (v .0) (v .1 .0) (c .before .before .before .before .before .before .before .before .feed .result),
+            length-lines (points (now (a .x)) (now (a .y))) (now (a .ring)) n,
+          ))),
+    )
 
 same-length-2 : tie.Need-same-length-2
 same-length-2 c = search needs
 
 returns-2 : tie.Need-returns-2
 unfolding reportText
-returns-2 c = rw (c .before .before .before .before .before .report2 .given .1) (c .before .before .put-stopped .ensures)
+returns-2 c = let t = c .before .before .put-stopped .ensures in (rw (c .before .before .before .before .before .report2 .given .1) t, put-within t (omega (arith, c .before .before .before .before .before .before .before .before .before .pre .1, length-stopped (c .before .before .before .before .before .report2 .given .0 .0))))
 
 same-length-3 : tie.Need-same-length-3
 same-length-3 c = search needs
 
 returns-3 : tie.Need-returns-3
 unfolding reportText
-returns-3 c = rw (c .before .before .before .before .before .report3 .given .1) (c .before .before .put-refused .ensures)
+returns-3 c = let t = c .before .before .put-refused .ensures in (rw (c .before .before .before .before .before .report3 .given .1) t, put-within t (omega (arith, c .before .before .before .before .before .before .before .before .before .pre .1, length-refused (c .before .before .before .before .before .report3 .given .0 .0))))
 
 pub put-report-spec : {M : Type 1} → statement M
 put-report-spec =
