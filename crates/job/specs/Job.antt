@@ -42,7 +42,7 @@ abbrev pub pickAt : List ℕ → ℕ → ℕ
 pickAt job i = word job (pickStart job + 4 * i)
 
 -- ---- the checks
--- An area starts before byte 20 or ends past the total. An empty one needs such a start too.
+-- An area starts before byte 20 or ends past the total. So an empty area too starts from 20 to the total. Areas may overlap.
 unfoldable pub outside : (start size total : ℕ) → Bool
 outside start size total = ltb start 20 || ltb total (start + size)
 
