@@ -1,0 +1,11 @@
+-- The job file
+pub mod Words
+pub mod Steps
+pub mod Buffers
+pub mod Job
+pub mod Encoded
+-- What is printed
+pub mod Ascii
+pub mod Decimal
+pub mod Feed
+pub mod Text
