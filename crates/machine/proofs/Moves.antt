@@ -75,7 +75,7 @@ module _ (n : ℕ) (pt : ℕ → Point) where
     length-none [] h = refl
     length-none (r ∷ l) h = absurd (omega arith)
 
-    step-log : (c : ℕ) (t : Traced) → (t .now .store .dense ≡ [] → ⊥) → length (step n pt w c t .log) ≡ suc (length (t .log))
+    pub step-log : (c : ℕ) (t : Traced) → (t .now .store .dense ≡ [] → ⊥) → length (step n pt w c t .log) ≡ suc (length (t .log))
     step-log c t h =
         ap (λ (b : Bool). length (cond b t (carried n pt (planOf n pt (t .now) (w c (t .now))) t) .log))
         (ne-eqb (length (t .now .store .dense)) 0 (λ u. h (length-none (t .now .store .dense) u)))

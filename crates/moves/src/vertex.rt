@@ -6,6 +6,7 @@ ghost use Rattle.polygon.specs.Ring.{IsRing, at as entry, next, prev};
 ghost use Rattle.machine.specs.Board.{turnAt, straightLine, kinkAt};
 ghost use Rattle.machine.specs.Search.{heldAt, kinkIn};
 ghost use Rattle.moves.specs.Walk.{RingOver, Both};
+use cursor::point_after;
 use geometry::line_segment::inside_at;
 use geometry::orientation::turn_at;
 use polygon::polygon::position_to_point_id;
@@ -33,7 +34,7 @@ pub fn number_after(ring: &[u16], at: Position) -> usize
     requires { ⌜ IsRing (at .size) (now ring) × (at .id .0 < at .size) ⌝ }
     ensures { λ r. ⌜ r ≡ entry (now (ring .entry)) (next (at .size) (at .id .0)) ⌝ }
 {
-    number_at(ring, at.next())
+    point_after(ring, at).0 as usize
 }
 
 // The turn at a position: of the point before it, itself and the point after it.

@@ -11,3 +11,4 @@ pub mod Hoisting
 pub mod LaidEdges
 pub mod Plans
 pub mod WholeReversal
+pub mod LentPosition

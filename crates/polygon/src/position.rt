@@ -66,4 +66,20 @@ impl Position {
             }
         }
     }
+
+    // One place on, for whoever lends the position.
+    pub fn move_next(&mut self)
+        requires { ⌜ now self .id .0 < now self .size ⌝ }
+        ensures { λ _. ⌜ now (self .exit) ≡ position (now (self .entry) .size) (next (now (self .entry) .size) (now (self .entry) .id .0)) ⌝ }
+    {
+        *self = self.next();
+    }
+
+    // One place back, likewise.
+    pub fn move_prev(&mut self)
+        requires { ⌜ now self .id .0 < now self .size ⌝ }
+        ensures { λ _. ⌜ now (self .exit) ≡ position (now (self .entry) .size) (prev (now (self .entry) .size) (now (self .entry) .id .0)) ⌝ }
+    {
+        *self = self.prev();
+    }
 }

@@ -1,21 +1,17 @@
--- `number_after` meets its contract: the position one place on is one of the same ring.
-use mathlib.Core.Path.{_∙_, ap}
-use denote.Ref.{now}
+-- `number_after` meets its contract: the cursor walks exactly the ring, and the number that it reads is handed on.
+use mathlib.Core.Path.{sym}
 use borrow.Author.Needs.{needs}
-use Rattle.polygon.specs.Ring.{at}
-use Rattle.polygon.proofs.Positions.{next-lt}
-use Rattle.moves.proofs.RingPositions.{at-id, ring-at}
 use Rattle.moves.proofs.vertex.number_after.Statement.{statement}
 use Rattle.moves.proofs.vertex.number_after.Tie as tie
 
-next-requires : tie.Need-next-requires
-next-requires c κs = search needs
+point-after-requires : tie.Need-point-after-requires
+point-after-requires c κs = (sym (c .before .pre .0 .len), c .before .pre .1)
 
-number-at-requires : tie.Need-number-at-requires
-number-at-requires c κs = ring-at (c .next .ensures) (c .before .before .pre .0) (next-lt _ _ (c .before .before .pre .1))
+cast-result : tie.Need-cast-result
+cast-result c = search needs
 
 returns : tie.Need-returns
-returns c = c .number-at .ensures ∙ ap (at (now (c .before .before .before .args .ring))) (at-id (c .before .next .ensures))
+returns c = search needs
 
 pub number-after-spec : {M : Type 1} → statement M
-number-after-spec = tie.close (tie.spec next-requires number-at-requires returns)
+number-after-spec = tie.close (tie.spec point-after-requires cast-result returns)

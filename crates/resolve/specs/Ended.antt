@@ -1,0 +1,30 @@
+-- What a run counts, and the lent buffers after it.
+use mathlib.Core.Path.{_≡_}
+use mathlib.Core.Bool.{cond}
+use mathlib.Core.List.{List}
+use Prim.Native.Nat.{ℕ}
+use lib.Dec.{eqb}
+use lib.ListN.{length}
+use Rattle.geometry.specs.Plane.{Point}
+use Rattle.polygon.specs.Ring.{indexOf}
+use Rattle.intersection_set.specs.Pool.{Pool}
+use Rattle.intersection_set.specs.Holds.{Shows}
+use Rattle.machine.specs.Machine.{start, after, place}
+use Rattle.machine.specs.Answer.{finish}
+use Rattle.untangle.specs.Running.{stateAfter}
+
+-- From the ring r by the picks cs: the moves made, the records at the start, the records left.
+pub record Counted (n : ℕ) (pt : ℕ → Point) (r cs : List ℕ) (m c l : ℕ) : Type 0 where
+  pub moves : m ≡ length (after n pt place cs r .log)
+  pub cross : c ≡ length (start n pt r .dense)
+  pub left : l ≡ length (stateAfter n pt r cs .store .dense)
+
+-- the machine's ring, finished if no record is left
+abbrev pub lastRing : ℕ → (ℕ → Point) → List ℕ → List ℕ → List ℕ
+lastRing n pt r cs = let t = stateAfter n pt r cs in cond (eqb (length (t .store .dense)) 0) (finish n pt (t .ring)) (t .ring)
+
+-- The buffers then: that ring, the index that inverts it, and the machine's records.
+pub record Ended (n : ℕ) (pt : ℕ → Point) (r cs ring index : List ℕ) (p : Pool) : Type 0 where
+  pub same-ring : ring ≡ lastRing n pt r cs
+  pub same-index : index ≡ indexOf n ring
+  pub shows : Shows n p (stateAfter n pt r cs .store)
