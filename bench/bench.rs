@@ -49,7 +49,7 @@ fn board(make: &str, n: usize, seed: u32) -> Board {
     for i in (1..n).rev() {
         points.swap(i, r.below(i as u32 + 1) as usize);
     }
-    Board { points, picks: (0..1_000_000).map(|_| r.next()).collect() }
+    Board { points, picks: (0..16_384).map(|_| r.next()).collect() }
 }
 
 /// The least time of several runs, in nanoseconds: what else the machine does only adds.
