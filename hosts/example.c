@@ -1,0 +1,68 @@
+/* A C host: reads a job, delivers its loop, asks for less, and breaks each rule once. scripts/hosts.sh runs it. */
+#include <stdio.h>
+#include <string.h>
+#include "tour.h"
+
+enum { N = 8, PAIRS = N * (N - 1) };
+
+static uint16_t ring[N + 1], index_of[N], work[12][PAIRS];
+
+/* One call with all buffers; `room` is the length that the twelve work buffers are lent with. */
+static tour_answer call(int from_ring, size_t n, const int32_t *x, const int32_t *y, const uint32_t *picks, size_t picks_len, size_t room) {
+    return (from_ring ? tour_resolve_self_intersections : tour_two_opt_moves)(n, x, N, y, N, picks, picks_len, ring, N, index_of, N,
+        work[0], room, work[1], room, work[2], room, work[3], room, work[4], room, work[5], room, work[6], room,
+        work[7], room, work[8], room, work[9], room, work[10], room, work[11], room);
+}
+
+/* The answer, and for a loop or a state the ring and the records left. */
+static void show(const char *title, size_t n, tour_answer a) {
+    printf("%s: code %u moves %zu cross %zu left %zu\n", title, (unsigned)a.code, a.moves, a.cross, a.left);
+    if (a.code != 0 && a.code != 8) return;
+    printf("  ring");
+    for (size_t i = 0; i < n; i++) printf(" %u", ring[i]);
+    printf("\n");
+    for (size_t i = 0; i < a.left; i++) {
+        unsigned s = work[9][i];
+        printf("  record %u-%u %u-%u\n", work[1][s], work[2][s], work[5][s], work[6][s]);
+    }
+}
+
+static void put_word(uint8_t *job, size_t *at, uint32_t w) {
+    for (int k = 0; k < 4; k++) job[(*at)++] = (uint8_t)(w >> 8 * k);
+}
+
+int main(void) {
+    /* the job of four points in micrometres and one pick */
+    static const uint32_t words[] = {4, 20, 1, 52, 56, 0, 0, 100, 100, 100, 0, 0, 100, 7};
+    uint8_t job[56];
+    size_t at = 0;
+    for (size_t i = 0; i < sizeof words / sizeof *words; i++) put_word(job, &at, words[i]);
+    int32_t x[N] = {0}, y[N] = {0};
+    uint32_t picks[4091];
+    tour_job read = tour_read_job(job, at, x, N, y, N, picks, 4091);
+    printf("job: code %u points %zu picks %zu\n", (unsigned)read.code, read.points, read.picks);
+    printf("job cut off: code %u\n", (unsigned)tour_read_job(job, at - 1, x, N, y, N, picks, 4091).code);
+    printf("job, short buffer: code %u\n", (unsigned)tour_read_job(job, at, x, 3, y, N, picks, 4091).code);
+
+    memset(work, 0xa5, sizeof work);
+    ring[N] = 4711;
+    show("loop", read.points, call(0, read.points, x, y, picks, read.picks, PAIRS));
+    show("no picks", read.points, call(0, read.points, x, y, NULL, 0, PAIRS));
+    memcpy(ring, (uint16_t[]){0, 2, 1, 3}, 8);
+    show("lent ring", read.points, call(1, read.points, x, y, picks, read.picks, PAIRS));
+    memcpy(ring, (uint16_t[]){0, 2, 2, 3}, 8);
+    show("no ring", read.points, call(1, read.points, x, y, picks, read.picks, PAIRS));
+    show("short buffers", read.points, call(0, read.points, x, y, picks, read.picks, 11));
+    show("too many points", 257, call(0, 257, x, y, picks, read.picks, PAIRS));
+    x[1] = 1000000001;
+    show("too far", read.points, call(0, read.points, x, y, picks, read.picks, PAIRS));
+    x[1] = x[0], y[1] = y[0];
+    show("equal points", read.points, call(0, read.points, x, y, picks, read.picks, PAIRS));
+    show("two points", 2, call(0, 2, (int32_t[N]){0, 1}, (int32_t[N]){0}, picks, read.picks, PAIRS));
+    show("one line", 3, call(0, 3, (int32_t[N]){0, 1, 2}, (int32_t[N]){0, 1, 2}, picks, read.picks, PAIRS));
+    printf("past the ring: %u\n", ring[N]);
+
+    printf("meets: %u %u %u %u\n", (unsigned)tour_meets(0, 0, 4, 0, 2, 0, 2, 3), (unsigned)tour_meets(0, 0, 4, 0, 4, 0, 2, 0),
+        (unsigned)tour_meets(0, 0, 2, 0, 2, 0, 4, 0), (unsigned)tour_meets(0, 0, 0, 0, 1, 0, 2, 0));
+    return 0;
+}

@@ -1,0 +1,118 @@
+//! The proved two-opt polygonization for Rust hosts: a safe wrapper of libhost.a (scripts/hosts.sh builds it).
+//! tour.h says what each buffer needs. A safe reference is good for its length and shares nothing with another `&mut`, which is all that
+//! the library cannot check for itself; so nothing here can be called wrongly.
+
+mod raw {
+    #[repr(C)]
+    pub struct Answer {
+        pub code: u32,
+        pub moves: usize,
+        pub cross: usize,
+        pub left: usize,
+    }
+
+    #[repr(C)]
+    pub struct Job {
+        pub code: u32,
+        pub points: usize,
+        pub picks: usize,
+    }
+
+    macro_rules! entries {
+        ($($entry:ident),*) => {
+            #[link(name = "host", kind = "static")]
+            unsafe extern "C" {
+                $(pub fn $entry(n: usize, x: *const i32, x_len: usize, y: *const i32, y_len: usize, picks: *const u32, picks_len: usize,
+                    ring: *mut u16, ring_len: usize, index: *mut u16, index_len: usize, heads: *mut u16, heads_len: usize,
+                    min0: *mut u16, min0_len: usize, max0: *mut u16, max0_len: usize, next0: *mut u16, next0_len: usize,
+                    prev0: *mut u16, prev0_len: usize, min1: *mut u16, min1_len: usize, max1: *mut u16, max1_len: usize,
+                    next1: *mut u16, next1_len: usize, prev1: *mut u16, prev1_len: usize, dense: *mut u16, dense_len: usize,
+                    reverse: *mut u16, reverse_len: usize, free: *mut u16, free_len: usize) -> Answer;)*
+                pub safe fn tour_meets(a1x: i32, a1y: i32, a2x: i32, a2y: i32, b1x: i32, b1y: i32, b2x: i32, b2y: i32) -> u32;
+                pub fn tour_read_job(job: *const u8, job_len: usize, x: *mut i32, x_len: usize, y: *mut i32, y_len: usize,
+                    picks: *mut u32, picks_len: usize) -> Job;
+            }
+        };
+    }
+    entries!(tour_two_opt_moves, tour_resolve_self_intersections);
+}
+
+/// What an entry answers.
+#[derive(Clone, Copy, Debug, PartialEq, Eq)]
+pub enum Answer {
+    /// The ring is a loop: moves made, and pairs of edges that met at the start.
+    Delivered { moves: usize, cross: usize },
+    /// The picks are used up: moves made, and records left.
+    Stopped { moves: usize, left: usize },
+    /// The number of the refusal; every buffer is as it was.
+    Refused(u32),
+}
+
+/// The ring and the work buffers that a call is lent.
+pub struct Buffers {
+    pub ring: Vec<u16>,
+    pub index: Vec<u16>,
+    work: [Vec<u16>; 12],
+}
+
+impl Buffers {
+    /// Buffers that n points need.
+    pub fn new(n: usize) -> Buffers {
+        let pairs = n * n.saturating_sub(1);
+        Buffers { ring: vec![0; n], index: vec![0; n], work: std::array::from_fn(|_| vec![0; pairs]) }
+    }
+
+    /// The edges of the first records in dense order; after `Stopped { left, .. }` the first `left` are those left.
+    pub fn records(&self, left: usize) -> impl Iterator<Item = [u16; 4]> + '_ {
+        let [_, min0, max0, _, _, min1, max1, _, _, dense, _, _] = &self.work;
+        dense.iter().take(left).map(|&s| s as usize).map(|s| [min0[s], max0[s], min1[s], max1[s]])
+    }
+}
+
+macro_rules! call {
+    ($entry:ident, $n:expr, $x:expr, $y:expr, $picks:expr, $lent:expr) => {{
+        let (x, y, picks): (&[i32], &[i32], &[u32]) = ($x, $y, $picks);
+        let Buffers { ring, index, work: [a, b, c, d, e, f, g, h, i, j, k, l] } = $lent;
+        // SAFETY: every pointer and length is of a live slice, and the borrow checker keeps the `&mut` ones apart.
+        let answer = unsafe {
+            raw::$entry($n, x.as_ptr(), x.len(), y.as_ptr(), y.len(), picks.as_ptr(), picks.len(), ring.as_mut_ptr(), ring.len(),
+                index.as_mut_ptr(), index.len(), a.as_mut_ptr(), a.len(), b.as_mut_ptr(), b.len(), c.as_mut_ptr(), c.len(),
+                d.as_mut_ptr(), d.len(), e.as_mut_ptr(), e.len(), f.as_mut_ptr(), f.len(), g.as_mut_ptr(), g.len(),
+                h.as_mut_ptr(), h.len(), i.as_mut_ptr(), i.len(), j.as_mut_ptr(), j.len(), k.as_mut_ptr(), k.len(),
+                l.as_mut_ptr(), l.len())
+        };
+        match answer.code {
+            0 => Answer::Delivered { moves: answer.moves, cross: answer.cross },
+            8 => Answer::Stopped { moves: answer.moves, left: answer.left },
+            code => Answer::Refused(code),
+        }
+    }};
+}
+
+/// A loop through the first n points, starting in their own order.
+pub fn two_opt_moves(n: usize, x: &[i32], y: &[i32], picks: &[u32], lent: &mut Buffers) -> Answer {
+    call!(tour_two_opt_moves, n, x, y, picks, lent)
+}
+
+/// A loop through the first n points, starting from `lent.ring`.
+pub fn resolve_self_intersections(n: usize, x: &[i32], y: &[i32], picks: &[u32], lent: &mut Buffers) -> Answer {
+    call!(tour_resolve_self_intersections, n, x, y, picks, lent)
+}
+
+/// Whether two segments share a place that is not an end of both; the error is the number of the refusal.
+pub fn meets(a: [[i32; 2]; 2], b: [[i32; 2]; 2]) -> Result<bool, u32> {
+    match raw::tour_meets(a[0][0], a[0][1], a[1][0], a[1][1], b[0][0], b[0][1], b[1][0], b[1][1]) {
+        0 => Ok(false),
+        1 => Ok(true),
+        code => Err(code),
+    }
+}
+
+/// Reads a job file; answers how many points and picks it has, or the number of the refusal.
+pub fn read_job(job: &[u8], x: &mut [i32], y: &mut [i32], picks: &mut [u32]) -> Result<(usize, usize), u32> {
+    // SAFETY: as above.
+    let read = unsafe {
+        raw::tour_read_job(job.as_ptr(), job.len(), x.as_mut_ptr(), x.len(), y.as_mut_ptr(), y.len(), picks.as_mut_ptr(), picks.len())
+    };
+    if read.code == 0 { Ok((read.points, read.picks)) } else { Err(read.code) }
+}
