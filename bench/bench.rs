@@ -6,7 +6,6 @@ mod tour;
 
 use rgeometry::probe::bare_moves;
 use std::hint::black_box;
-use std::mem::MaybeUninit;
 use std::time::Instant;
 use tour::{Answer, Buffers};
 
@@ -94,41 +93,34 @@ fn measure(make: &str, n: usize) -> Line {
     sum
 }
 
-const STACK: usize = 1 << 20;
+const DEPTH: usize = 1 << 20;
+const OWN: usize = 512;
 const PAINT: u8 = 0xa5;
 
-/// Paints the stack below the caller's frame.
+/// The stack that a call of the library uses, its wrapper's with it: the part below this frame is painted before the call, and looked at after it.
 #[inline(never)]
-fn paint() {
-    let mut below = MaybeUninit::<[u8; STACK]>::uninit();
-    let at = black_box(below.as_mut_ptr()).cast::<u8>();
-    for i in 0..STACK {
-        // SAFETY: inside the array.
-        unsafe { at.add(i).write_volatile(PAINT) };
+fn stack_of_call(n: usize, x: &[i32], y: &[i32], picks: &[u32], lent: &mut Buffers) -> usize {
+    let mut here = 0u8;
+    let top = black_box(&raw mut here);
+    for depth in OWN..DEPTH {
+        // SAFETY: inside the stack of this thread, which has more than DEPTH left; below this frame, where nothing lives.
+        unsafe { top.sub(depth).write_volatile(PAINT) };
     }
+    black_box(tour::two_opt_moves(n, x, y, picks, lent));
+    let untouched = |depth: &usize| unsafe { top.sub(*depth).read_volatile() } == PAINT;
+    DEPTH - (OWN..DEPTH).rev().take_while(untouched).count()
 }
 
-/// How much of the paint is gone, from the caller's frame down.
-#[inline(never)]
-fn painted_over() -> usize {
-    let below = MaybeUninit::<[u8; STACK]>::uninit();
-    let at = black_box(below.as_ptr()).cast::<u8>();
-    // SAFETY: inside the array, whose bytes `paint` and the call between left there.
-    STACK - (0..STACK).take_while(|&i| unsafe { at.add(i).read_volatile() } == PAINT).count()
-}
-
-/// The stack that a call of the library uses, on the deepest of several boards.
+/// The same on the deepest of several boards, in a thread with room to paint.
 fn stack_used(n: usize) -> usize {
-    let used = |make, seed| {
+    let used = move |make, seed| {
         let b = board(make, n, seed);
         let x: Vec<i32> = b.points.iter().map(|p| p[0]).collect();
         let y: Vec<i32> = b.points.iter().map(|p| p[1]).collect();
-        let mut lent = Buffers::new(n);
-        paint();
-        black_box(tour::two_opt_moves(n, &x, &y, &b.picks, &mut lent));
-        painted_over()
+        stack_of_call(n, &x, &y, &b.picks, &mut Buffers::new(n))
     };
-    MAKES.iter().flat_map(|make| (0..4).map(move |seed| used(make, seed))).max().unwrap()
+    let deepest = move || MAKES.iter().flat_map(|make| (0..4).map(move |seed| used(make, seed))).max().unwrap();
+    std::thread::Builder::new().stack_size(8 * DEPTH).spawn(deepest).unwrap().join().unwrap()
 }
 
 fn main() {

@@ -1,4 +1,13 @@
 // The two entries for hosts.
+ghost use mathlib.Core.Path.{_≡_};
+ghost use mathlib.Core.List.{List};
+ghost use Prim.Native.Nat.{ℕ};
+ghost use lib.ListN.{take};
+ghost use Rattle.algebra.specs.Ranges.{upFrom};
+ghost use Rattle.geometry.specs.Lent.{points};
+ghost use Rattle.machine.specs.Answer.{call};
+ghost use Rattle.two_opt.specs.Entry.{answerOf, lent, shortOf, Leaves};
+ghost use Rattle.host.specs.Numbers.{inNumbers};
 use two_opt::entries::Answer;
 use two_opt::entries::resolve_self_intersections;
 use two_opt::entries::two_opt_moves;
@@ -13,7 +22,9 @@ pub struct TourAnswer {
     pub left: usize,
 }
 
-fn in_numbers(answer: Answer) -> TourAnswer {
+fn in_numbers(answer: Answer) -> TourAnswer
+    ensures { λ r. ⌜ ((ring : List ℕ) → r ≡ inNumbers (answerOf answer ring)) ⌝ }
+{
     match answer {
         Answer::Delivered { moves, cross } => TourAnswer {
             code: 0,
@@ -57,7 +68,10 @@ pub extern "C" fn tour_two_opt_moves(
     dense: &mut [u16],
     reverse: &mut [u16],
     free: &mut [u16],
-) -> TourAnswer {
+) -> TourAnswer
+    ensures { λ r. ⌜ (r ≡ inNumbers (call n (points (now (x .entry)) (now (y .entry))) (shortOf n (now (x .entry)) (now (y .entry)) (now (ring .entry)) (now (index .entry)) (lent (now (heads .entry)) (now (min0 .entry)) (now (max0 .entry)) (now (next0 .entry)) (now (prev0 .entry)) (now (min1 .entry)) (now (max1 .entry)) (now (next1 .entry)) (now (prev1 .entry)) (now (dense .entry)) (now (reverse .entry)) (now (free .entry)))) (upFrom 0 n) (now (picks .entry))))
+        × Leaves n (points (now (x .entry)) (now (y .entry))) (shortOf n (now (x .entry)) (now (y .entry)) (now (ring .entry)) (now (index .entry)) (lent (now (heads .entry)) (now (min0 .entry)) (now (max0 .entry)) (now (next0 .entry)) (now (prev0 .entry)) (now (min1 .entry)) (now (max1 .entry)) (now (next1 .entry)) (now (prev1 .entry)) (now (dense .entry)) (now (reverse .entry)) (now (free .entry)))) (upFrom 0 n) (now (picks .entry)) (now (ring .entry)) (now (index .entry)) (lent (now (heads .entry)) (now (min0 .entry)) (now (max0 .entry)) (now (next0 .entry)) (now (prev0 .entry)) (now (min1 .entry)) (now (max1 .entry)) (now (next1 .entry)) (now (prev1 .entry)) (now (dense .entry)) (now (reverse .entry)) (now (free .entry))) (now (ring .exit)) (now (index .exit)) (lent (now (heads .exit)) (now (min0 .exit)) (now (max0 .exit)) (now (next0 .exit)) (now (prev0 .exit)) (now (min1 .exit)) (now (max1 .exit)) (now (next1 .exit)) (now (prev1 .exit)) (now (dense .exit)) (now (reverse .exit)) (now (free .exit))) ⌝ }
+{
     in_numbers(two_opt_moves(
         n,
         x,
@@ -101,7 +115,10 @@ pub extern "C" fn tour_resolve_self_intersections(
     dense: &mut [u16],
     reverse: &mut [u16],
     free: &mut [u16],
-) -> TourAnswer {
+) -> TourAnswer
+    ensures { λ r. ⌜ (r ≡ inNumbers (call n (points (now (x .entry)) (now (y .entry))) (shortOf n (now (x .entry)) (now (y .entry)) (now (ring .entry)) (now (index .entry)) (lent (now (heads .entry)) (now (min0 .entry)) (now (max0 .entry)) (now (next0 .entry)) (now (prev0 .entry)) (now (min1 .entry)) (now (max1 .entry)) (now (next1 .entry)) (now (prev1 .entry)) (now (dense .entry)) (now (reverse .entry)) (now (free .entry)))) (take n (now (ring .entry))) (now (picks .entry))))
+        × Leaves n (points (now (x .entry)) (now (y .entry))) (shortOf n (now (x .entry)) (now (y .entry)) (now (ring .entry)) (now (index .entry)) (lent (now (heads .entry)) (now (min0 .entry)) (now (max0 .entry)) (now (next0 .entry)) (now (prev0 .entry)) (now (min1 .entry)) (now (max1 .entry)) (now (next1 .entry)) (now (prev1 .entry)) (now (dense .entry)) (now (reverse .entry)) (now (free .entry)))) (take n (now (ring .entry))) (now (picks .entry)) (now (ring .entry)) (now (index .entry)) (lent (now (heads .entry)) (now (min0 .entry)) (now (max0 .entry)) (now (next0 .entry)) (now (prev0 .entry)) (now (min1 .entry)) (now (max1 .entry)) (now (next1 .entry)) (now (prev1 .entry)) (now (dense .entry)) (now (reverse .entry)) (now (free .entry))) (now (ring .exit)) (now (index .exit)) (lent (now (heads .exit)) (now (min0 .exit)) (now (max0 .exit)) (now (next0 .exit)) (now (prev0 .exit)) (now (min1 .exit)) (now (max1 .exit)) (now (next1 .exit)) (now (prev1 .exit)) (now (dense .exit)) (now (reverse .exit)) (now (free .exit))) ⌝ }
+{
     in_numbers(resolve_self_intersections(
         n,
         x,

@@ -1,0 +1,25 @@
+-- What hosts are told: each answer in numbers.
+use mathlib.Core.Bool.{Bool, true, false}
+use Prim.Native.Nat.{ℕ}
+use Rattle.geometry.specs.Answers.{Answer as Told, refused as denied, answered}
+use Rattle.machine.specs.Answer.{Answer, refused, unfinished, delivered}
+use Rattle.job.specs.Job.{Counts}
+use Rattle.host.specs.declared.loops.TourAnswer.{TourAnswer}
+use Rattle.host.specs.declared.job_file.TourJob.{TourJob}
+
+-- 0 for a delivered loop, else the number of the refusal, with the counts that belong to it
+abbrev pub inNumbers : Answer → TourAnswer
+inNumbers (delivered ring moves cross) = record { code = 0; moves = moves; cross = cross; left = 0 }
+inNumbers (unfinished ring moves left) = record { code = 8; moves = moves; cross = 0; left = left }
+inNumbers (refused number) = record { code = number; moves = 0; cross = 0; left = 0 }
+
+-- 1 for yes, 0 for no, else the number of the refusal
+abbrev pub yesOrNo : Told Bool → ℕ
+yesOrNo (answered true) = 1
+yesOrNo (answered false) = 0
+yesOrNo (denied number) = number
+
+-- 0 for a job that is read, with its counts, else the number of the refusal
+abbrev pub jobInNumbers : Told Counts → TourJob
+jobInNumbers (answered counts) = record { code = 0; points = counts .points; picks = counts .picks }
+jobInNumbers (denied number) = record { code = number; points = 0; picks = 0 }
