@@ -1,14 +1,20 @@
 #!/usr/bin/env python3
-"""usage: make_jobs.py ORACLE DIR
+"""Makes what `tourjob_replay` is run on: crates/tourjob_replay/stdin (a row of jobs, each behind its length as a little-endian
+32-bit word) and stdout (what `tourjob` has to print of each).
 
-Writes DIR/stdin, a row of jobs, each behind its length as a little-endian 32-bit word, and DIR/stdout, what `tourjob` has to
-print for each. The refusals of the job file and the rounding are computed here, from the rules of the job file; everything behind
-them is what the original Rust answers (ORACLE is its program, built from the published sources)."""
+    python3 scripts/make_tourjob_replay.py ORACLE
+
+The refusals of the job file, the rounding and the feed are computed here, from the rules of the job file. The rest is what the
+original Rust answers: ORACLE is it, built as a program that reads one question on each line, `moves N x y .. M pick ..`, and
+answers on a line of its own: `error NAME`, or `ok` or `out` with the fields `ring`, `moves`, `cross`, `left` between bars.
+"""
+import os
 import struct
 import subprocess
 import sys
 
 LIMIT = 16384
+FOLDER = os.path.join(os.path.dirname(os.path.dirname(os.path.abspath(__file__))), "crates", "tourjob_replay")
 
 
 def words(*ws):
@@ -208,11 +214,11 @@ def jobs():
 
 
 def main():
-    oracle, folder = sys.argv[1], sys.argv[2]
+    oracle = sys.argv[1]
     rows = list(jobs())
     asked = [board(b) for b in rows if refusal(b) == 0]
     answers = iter(zip(asked, ask(oracle, asked)))
-    with open(folder + "/stdin", "wb") as i, open(folder + "/stdout", "w") as o:
+    with open(os.path.join(FOLDER, "stdin"), "wb") as i, open(os.path.join(FOLDER, "stdout"), "w") as o:
         for b in rows:
             i.write(words(len(b)) + b)
             k = refusal(b)

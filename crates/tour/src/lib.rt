@@ -87,7 +87,8 @@ fn deliver(n: usize, x: &[i32], y: &[i32], picks: &[u32], out: &mut [u8]) -> usi
     tell(answer, n, x, y, &ring, out)
 }
 
-// Writes what is printed of a job to the start of `out`, and answers its length.
+// Writes what is printed of a job to the start of `out`, and answers its length. 2,216 bytes hold the longest text: 104 for the first line, 44 for each
+// of 48 points.
 pub fn tour(job: &[u8], out: &mut [u8]) -> usize
     requires { ⌜ 2216 ≤ length (now out) ⌝ }
     ensures { λ r. ⌜ Put (now (out .entry)) 0 (printed (now (job .entry))) r (now (out .exit)) ⌝ }

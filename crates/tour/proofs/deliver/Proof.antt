@@ -1,14 +1,12 @@
 -- `deliver` meets its contract: the answer is the machine's, and a delivered loop can be told.
-use mathlib.Core.Path.{_≡_, sym, ap, subst, _∙_}
+use mathlib.Core.Path.{sym, ap, subst, _∙_}
 use native.Mathlib.Omega.{arith}
 use lib.ListN.{take}
 use Rattle.algebra.specs.Ranges.{upFrom}
-use Rattle.geometry.specs.Lent.{points, Lent}
+use Rattle.geometry.specs.Lent.{points}
 use Rattle.machine.specs.Answer.{Answer, call}
 use Rattle.job.specs.Buffers.{Put}
 use Rattle.tour.specs.Printed.{told}
-use mathlib.Core.List.{List}
-use mathlib.Core.Bool.{false}
 use denote.Ref.{now}
 use Rattle.two_opt.specs.Entry.{answerOf}
 use Rattle.tour.proofs.Delivered.{delivered-ring, ring-drawn}
