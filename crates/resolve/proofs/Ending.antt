@@ -1,8 +1,8 @@
 -- The end of a run: the buffers hold the machine, then the ring is finished.
-use mathlib.Core.Path.{_≡_, refl, sym, _∙_, subst⁻¹}
+use mathlib.Core.Path.{_≡_, _∙_, subst⁻¹}
 use mathlib.Core.Bool.{false, cond}
 use mathlib.Core.List.{List}
-use Prim.Native.Nat.{ℕ, _≤_}
+use Prim.Native.Nat.{ℕ}
 use lib.Dec.{eqb}
 use lib.ListN.{length}
 use Rattle.geometry.specs.Plane.{Point}
@@ -10,9 +10,9 @@ use Rattle.polygon.specs.Ring.{IsRing, indexOf}
 use Rattle.intersection_set.specs.Store.{Store}
 use Rattle.intersection_set.specs.Pool.{Pool}
 use Rattle.intersection_set.specs.declared.utils.Counts.{Counts}
-use Rattle.intersection_set.specs.Holds.{Holds, Shows, Beyond}
+use Rattle.intersection_set.specs.Holds.{Shows, Beyond}
 use Rattle.intersection_set.proofs.Showing.{shows}
-use Rattle.machine.specs.Machine.{start, place}
+use Rattle.machine.specs.Machine.{place}
 use Rattle.machine.specs.Answer.{finish}
 use Rattle.machine.proofs.Accepted.{demand3-accepted, place-picks}
 use Rattle.untangle.specs.Running.{stateAfter, Running}

@@ -1,25 +1,25 @@
 -- The start of a run, and its picks one after the other.
 use mathlib.Core.Path.{_≡_, refl, sym, _∙_, ap, subst}
-use mathlib.Core.Bool.{Bool, true, false, _&&_}
+use mathlib.Core.Bool.{false, _&&_}
 use mathlib.Core.List.{List, [], _∷_, _++_}
-use Prim.Native.Nat.{ℕ, suc, _+_, _-_, _*_, _≤_, _<_}
+use Prim.Native.Nat.{ℕ, _+_, _-_, _≤_, _<_}
 use native.Mathlib.Omega.{arith}
 use native.Mathlib.Numerals.{add-one}
 use lib.Dec.{ltb}
 use lib.ListN.{length, getD, take, drop, take-append-drop, length-map}
 use lib.Seq.{take-suc, take-length}
-use borrow.Author.Tests.{ltb-true, ltb-false}
-use Rattle.algebra.specs.Cases.{both, true-or-false, and-left, and-right, never}
+use borrow.Author.Tests.{ltb-false}
+use Rattle.algebra.specs.Cases.{both, true-or-false}
 use Rattle.algebra.specs.Ranges.{upFrom, upFrom-length}
 use Rattle.geometry.specs.Plane.{Point}
 use Rattle.index_edge.specs.Edge.{Edge}
 use Rattle.polygon.specs.Ring.{IsRing, indexOf}
 use Rattle.polygon.specs.Edges.{edgeAt, edges}
-use Rattle.intersection_set.specs.Store.{Rec, Store, empty, noRec, chosen}
+use Rattle.intersection_set.specs.Store.{Rec, empty, noRec, chosen}
 use Rattle.intersection_set.specs.Pool.{Pool}
 use Rattle.intersection_set.specs.Within.{Proper}
 use Rattle.intersection_set.specs.Holds.{Holds}
-use Rattle.machine.specs.Machine.{Traced, place, begin, after, start, runW, step}
+use Rattle.machine.specs.Machine.{Traced, place, begin, after, start}
 use Rattle.machine.specs.Answer.{refusal}
 use Rattle.machine.proofs.Accepted.{Accepted, accepted}
 use Rattle.machine.proofs.Bounds.{few}

@@ -3,7 +3,6 @@ ghost use mathlib.Core.Path.{_≡_};
 ghost use mathlib.Core.Bool.{false, cond};
 ghost use Prim.Native.Nat.{_-_, _*_, _≤_};
 ghost use lib.Dec.{eqb};
-ghost use lib.ListN.{length};
 ghost use Rattle.geometry.specs.Lent.{points, Lent};
 ghost use Rattle.polygon.specs.Ring.{IsRing, indexOf};
 ghost use Rattle.intersection_set.specs.Pool.{poolOf};

@@ -1,12 +1,11 @@
 // The start of a run and the loop over the picks (two_opt.rs, `resolve_self_intersections`).
 ghost use mathlib.Core.Path.{_≡_};
-ghost use mathlib.Core.Bool.{Bool, false, _&&_};
+ghost use mathlib.Core.Bool.{false, _&&_};
 ghost use mathlib.Core.List.{List, []};
 ghost use Prim.Native.Nat.{ℕ, _-_, _*_, _≤_, _<_};
 ghost use lib.Dec.{ltb};
 ghost use lib.ListN.{length};
 ghost use Rattle.geometry.specs.Lent.{points, Lent};
-ghost use Rattle.index_edge.specs.Edge.{Edge};
 ghost use Rattle.intersection_set.specs.Pool.{poolOf};
 ghost use Rattle.intersection_set.specs.declared.utils.Counts.{Counts};
 ghost use Rattle.intersection_set.specs.Within.{Sized};

@@ -8,7 +8,7 @@ use lib.Dec.{eqb, ltb}
 use lib.IntN.{ℤ}
 use lib.ListN.{length, getD, take, drop, length-append, length-drop}
 use lib.Seq.{length-take-le}
-use borrow.Author.Tests.{ltb-false, eq-eqb, ne-eqb}
+use borrow.Author.Tests.{ltb-false, ne-eqb}
 use Rattle.algebra.specs.Cases.{or-no-left, or-no-right, and-left, and-right}
 use Rattle.geometry.specs.Plane.{Point, near}
 use Rattle.geometry.specs.Lent.{points, Lent, coord}
@@ -17,7 +17,7 @@ use Rattle.intersection_set.specs.declared.utils.Counts.{Counts}
 use Rattle.intersection_set.specs.Within.{Sized}
 use Rattle.intersection_set.specs.Holds.{Beyond}
 use Rattle.intersection_set.proofs.PastTheEnd.{beyond-self}
-use Rattle.machine.specs.Answer.{Answer, refused, unfinished, delivered, finish, refusal, call}
+use Rattle.machine.specs.Answer.{refused, unfinished, delivered, finish, refusal, call}
 use Rattle.machine.proofs.Accepted.{Accepted, accepted}
 use Rattle.untangle.specs.Running.{stateAfter}
 use Rattle.resolve.specs.Ended.{Counted, lastRing, Ended}

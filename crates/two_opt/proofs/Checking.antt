@@ -7,12 +7,12 @@ use native.Mathlib.Omega.{arith}
 use lib.Dec.{ltb}
 use lib.IntN.{ℤ}
 use lib.ListN.{length}
-use borrow.Author.Tests.{ltb-false, lt-ltb}
-use Rattle.algebra.specs.Cases.{both, le-cases, and-left, and-right, not-false, true-or-false}
+use borrow.Author.Tests.{ltb-false}
+use Rattle.algebra.specs.Cases.{both, and-left, and-right, not-false, true-or-false}
 use Rattle.algebra.specs.Ranges.{allBelow, all-true, upFrom}
 use Rattle.geometry.specs.Plane.{Point, nearP, collinear, near}
 use Rattle.geometry.specs.Lent.{points, Lent, coord}
-use Rattle.polygon.specs.Ring.{next, prev, at, eachOnce, IsRing}
+use Rattle.polygon.specs.Ring.{next, prev, at, eachOnce}
 use Rattle.polygon.proofs.Index.{list-at, first-ring}
 use Rattle.polygon.proofs.EachOnce.{ring-each}
 use Rattle.machine.specs.Board.{straightLine}

@@ -1,10 +1,8 @@
 -- `finish` meets its contract: three exits, by the records left and the turn at the least point.
-use mathlib.Core.Path.{_≡_, refl, sym, _∙_}
+use mathlib.Core.Path.{refl, sym, _∙_}
 use native.Mathlib.Omega.{arith}
 use borrow.Author.Needs.{needs}
 use borrow.Author.Tests.{eq-eqb, ne-eqb}
-use denote.Ref.{now}
-use lib.ListN.{length}
 use Rattle.algebra.specs.Cases.{not-true, not-false}
 use Rattle.polygon.proofs.Index.{indexed-of}
 use Rattle.resolve.proofs.resolve.finish.Statement.{statement}

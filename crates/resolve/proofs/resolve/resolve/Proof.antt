@@ -1,6 +1,5 @@
 -- `resolve` meets its contract: the start, the picks, the end.
-use mathlib.Core.Path.{_≡_, refl, sym, _∙_}
-use borrow.Author.Needs.{needs}
+use mathlib.Core.Path.{sym, _∙_}
 use denote.Ref.{now}
 use Rattle.geometry.specs.Lent.{points}
 use Rattle.intersection_set.proofs.PastTheEnd.{beyond-then}

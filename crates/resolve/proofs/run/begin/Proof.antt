@@ -1,13 +1,11 @@
 -- `begin` meets its contract: no records, then the sweeps of the ring's edges.
-use mathlib.Core.Path.{_≡_, refl, _∙_}
+use mathlib.Core.Path.{refl, _∙_}
 use native.Mathlib.Omega.{arith}
 use borrow.Author.Needs.{needs}
 use denote.Ref.{now}
 use Rattle.geometry.specs.Lent.{points}
 use Rattle.intersection_set.specs.Store.{empty}
-use Rattle.intersection_set.specs.Pool.{Pool, poolOf}
-use Rattle.intersection_set.specs.Within.{Sized}
-use Rattle.intersection_set.specs.Holds.{Holds}
+use Rattle.intersection_set.specs.Pool.{poolOf}
 use Rattle.intersection_set.proofs.Starting.{sized-start}
 use Rattle.intersection_set.proofs.PastTheEnd.{beyond-then}
 use Rattle.resolve.proofs.Picking.{start-ring, start-few, start-two, start-proper, start-room}

@@ -1,7 +1,7 @@
 -- `run` meets its contract. The loop's invariant: the buffers hold the machine after the picks before i, each of which made one move.
 use mathlib.Core.Path.{_≡_, refl, sym, _∙_, subst}
 use mathlib.Core.Bool.{true, _&&_}
-use mathlib.Core.List.{List, [], _∷_, _++_}
+use mathlib.Core.List.{List, []}
 use Prim.Native.Nat.{ℕ, _+_, _-_, _*_, _≤_, _<_}
 use native.Mathlib.Omega.{arith}
 use borrow.Author.Needs.{needs}
@@ -11,13 +11,12 @@ use lib.ListN.{length, getD, take}
 use denote.Ref.{now}
 use Rattle.algebra.specs.Cases.{and-left, and-right}
 use Rattle.geometry.specs.Lent.{points}
-use Rattle.index_edge.specs.Number.{edgeOf}
 use Rattle.intersection_set.specs.Pool.{poolOf}
 use Rattle.intersection_set.specs.Holds.{Beyond}
 use Rattle.intersection_set.proofs.Lengths.{SameSize, same-self}
 use Rattle.intersection_set.proofs.PastTheEnd.{beyond-self, beyond-then}
 use Rattle.machine.specs.Machine.{after, place}
-use Rattle.untangle.specs.Running.{stateAfter, Running, Picked}
+use Rattle.untangle.specs.Running.{Running}
 use Rattle.resolve.proofs.Picking.{take-more, running-more, picked, one-more, ended, moves-made}
 use Rattle.resolve.proofs.run.run.Statement.{statement}
 use Rattle.resolve.proofs.run.run.Tie as tie

@@ -1,5 +1,5 @@
 -- `too_short` meets its contract: the tests are those of the definition.
-use mathlib.Core.Path.{refl, sym, _∙_}
+use mathlib.Core.Path.{refl}
 use Prim.Native.Nat.{_-_, _*_}
 use lib.Dec.{ltb}
 use native.Mathlib.Omega.{arith}

@@ -1,5 +1,5 @@
 -- `from_ring` meets its contract: the index that it writes inverts the lent ring.
-use mathlib.Core.Path.{_≡_, sym, ap, _∙_}
+use mathlib.Core.Path.{sym, ap, _∙_}
 use native.Mathlib.Omega.{arith}
 use denote.Ref.{now}
 use Rattle.geometry.specs.Lent.{points}

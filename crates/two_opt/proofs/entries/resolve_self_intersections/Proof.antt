@@ -1,5 +1,5 @@
 -- `resolve_self_intersections` meets its contract: a refused call writes nothing, any other is a run of the machine.
-use mathlib.Core.Path.{_≡_, refl, sym, ap, _∙_, subst}
+use mathlib.Core.Path.{_≡_, sym, ap, _∙_, subst}
 use mathlib.Core.Bool.{Bool, false}
 use mathlib.Core.List.{List, _++_}
 use Prim.Native.Nat.{ℕ, _-_, _≤_}
@@ -7,7 +7,6 @@ use native.Mathlib.Omega.{arith}
 use borrow.Author.Needs.{needs}
 use denote.Ref.{now}
 use lib.ListN.{length, take, drop}
-use Rattle.algebra.specs.Ranges.{upFrom}
 use Rattle.geometry.specs.Plane.{Point}
 use Rattle.geometry.specs.Lent.{points}
 use Rattle.intersection_set.specs.Pool.{Pool, countsOf}

@@ -1,5 +1,5 @@
 -- `two_opt_moves` meets its contract: a refused call writes nothing, any other is a run of the machine.
-use mathlib.Core.Path.{_≡_, refl, sym, ap, _∙_, subst}
+use mathlib.Core.Path.{_≡_, sym, _∙_}
 use mathlib.Core.Bool.{Bool, false}
 use mathlib.Core.List.{List, _++_}
 use Prim.Native.Nat.{ℕ, _-_, _≤_}
@@ -14,8 +14,8 @@ use Rattle.intersection_set.specs.Pool.{Pool, countsOf}
 use Rattle.intersection_set.specs.declared.utils.Counts.{Counts}
 use Rattle.machine.specs.Answer.{refusal}
 use Rattle.two_opt.specs.Entry.{lent, shortOf}
-use Rattle.two_opt.proofs.Checking.{same-refusal, from-start}
-use Rattle.two_opt.proofs.Answering.{refused-call, refused-leaves, long-ring, long-records, part-length, take-part, same-whole, accepts, runs, run-lent, ran-call, ran-leaves, counted-from, ended-from}
+use Rattle.two_opt.proofs.Checking.{same-refusal}
+use Rattle.two_opt.proofs.Answering.{refused-call, refused-leaves, long-ring, long-records, part-length, take-part, same-whole, accepts, runs, run-lent, ran-call, ran-leaves}
 use Rattle.two_opt.proofs.entries.two_opt_moves.Statement.{statement}
 use Rattle.two_opt.proofs.entries.two_opt_moves.Tie as tie
 
