@@ -19,6 +19,6 @@ pub mod Meeting
 pub mod Height
 pub mod Reading
 pub mod Choosing
-pub mod Signs
+pub mod MeetingParts
 pub mod Answering
 pub mod Boards

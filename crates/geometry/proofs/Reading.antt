@@ -26,6 +26,10 @@ widen h = record { sfits = omega (arith, h .sfits) }
 pub read-64 : {z t : ℤ} → mag z < 2 ^ 63 → z ≡ t → toZ w64 (ofZ w64 z) ≡ t
 read-64 {z} h e = toZ-ofZ w64 z (record { sfits = h }) ∙ e
 
+-- a 64-bit argument that is handed on
+pub read-given : {z t : ℤ} → SFits w64 z → z ≡ t → toZ w64 (ofZ w64 z) ≡ t
+read-given {z} f e = toZ-ofZ w64 z f ∙ e
+
 -- ---- tests of bits
 pub eq-bits : (w : Width) (a b : ℤ) → SFits w a → SFits w b → eqb (ofZ w a) (ofZ w b) ≡ eqZ a b
 eq-bits w a b f g =

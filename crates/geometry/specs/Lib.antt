@@ -1,6 +1,5 @@
 pub mod Plane
 pub mod Segment
-pub mod Signs
 pub mod Lent
 pub mod Answers
 pub mod Boards

@@ -1,6 +1,6 @@
 -- Segments: what a segment contains, and when two segments meet. Each comes in document 01's words and as a test that computes.
 use mathlib.Core.Path.{_≡_}
-use mathlib.Core.Bool.{Bool, true, not, _&&_, _||_, cond}
+use mathlib.Core.Bool.{Bool, true, false, not, _&&_, _||_, cond}
 use mathlib.Core.Logic.{_⊎_, _≢_}
 use lib.IntN.{ℤ, pos, _+ℤ_, _-ℤ_, _*ℤ_}
 use lib.Signed.{ltZ, _≤ℤ_, _<ℤ_}
@@ -11,6 +11,10 @@ use Rattle.geometry.specs.Plane.{Point, turn, Before, eqP, ltP, minP, ma
 pub data End : Type 0 where
   exclusive : End
   inclusive : End
+
+abbrev pub isOpen : End → Bool
+isOpen exclusive = true
+isOpen inclusive = false
 
 -- a is p or comes before it
 abbrev pub NotAfter : Point → Point → Type 0

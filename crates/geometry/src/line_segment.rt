@@ -3,9 +3,9 @@ ghost use mathlib.Core.Path.{_≡_};
 ghost use Prim.Native.Nat.{_≤_};
 ghost use lib.IntN.{_+ℤ_, _-ℤ_};
 ghost use Rattle.algebra.specs.Size.{abs};
-ghost use Rattle.geometry.specs.Plane.{isZero};
-ghost use Rattle.geometry.specs.Segment.{admits, between, contains, inside, sameSide, shared, overlap, meets};
-ghost use Rattle.geometry.specs.Signs.{anyZero, opposite};
+ghost use mathlib.Core.Bool.{_||_};
+ghost use Rattle.geometry.specs.Plane.{turn, isZero};
+ghost use Rattle.geometry.specs.Segment.{isOpen, admits, between, contains, inside, sameSide, shared, overlap, meets};
 ghost use Rattle.geometry.specs.Lent.{spot, points, InRange, Here};
 ghost use Rattle.geometry.specs.Answers.{verdictOf, endOf, markOf, proper, containment, meeting, answered};
 use super::orientation::turn_of;
@@ -43,6 +43,15 @@ impl EndPoint {
         match self {
             EndPoint::Exclusive(p) => p,
             EndPoint::Inclusive(p) => p,
+        }
+    }
+
+    fn is_open(self) -> bool
+        ensures { λ r. ⌜ r ≡ isOpen (markOf self) ⌝ }
+    {
+        match self {
+            EndPoint::Exclusive(_) => true,
+            EndPoint::Inclusive(_) => false,
         }
     }
 }
@@ -103,7 +112,11 @@ pub fn is_inside(a: Point, b: Point, v: Point) -> bool
     requires { ⌜ InRange (spot a) × InRange (spot b) × InRange (spot v) ⌝ }
     ensures { λ r. ⌜ r ≡ inside (spot a) (spot b) (spot v) ⌝ }
 {
-    is_zero(turn_of(a, b, v)) & (is_less(lesser(a, b), v) & is_less(v, greater(a, b)))
+    // The order is asked first: it takes no product, and seldom holds.
+    if !(is_less(lesser(a, b), v) & is_less(v, greater(a, b))) {
+        return false;
+    }
+    is_zero(turn_of(a, b, v))
 }
 
 // ---- meets
@@ -129,33 +142,6 @@ fn share(a: Point, b: Point, c: Point, d: Point) -> bool
     (alike(a, c) | alike(a, d)) | (alike(b, c) | alike(b, d))
 }
 
-// The rule for all cases: on one line by the order of the ends, else by the sides on which they lie. A shared end is left out.
-fn meet_by_cases(a: Point, b: Point, c: Point, d: Point) -> bool
-    requires { ⌜ InRange (spot a) × InRange (spot b) × InRange (spot c) × InRange (spot d) ⌝ }
-    ensures { λ r. ⌜ r ≡ meets (spot a) (spot b) (spot c) (spot d) ⌝ }
-{
-    let p = turn_of(a, b, c);
-    let q = turn_of(a, b, d);
-    if is_zero(p) & is_zero(q) {
-        return overlap(a, b, c, d);
-    }
-    let r = turn_of(c, d, a);
-    let s = turn_of(c, d, b);
-    !share(a, b, c, d) & (!same_side(p, q) & !same_side(r, s))
-}
-
-fn any_zero(p: i64, q: i64, r: i64, s: i64) -> bool
-    ensures { λ b. ⌜ b ≡ anyZero p q r s ⌝ }
-{
-    ((p == 0) | (q == 0)) | ((r == 0) | (s == 0))
-}
-
-fn opposite_sides(p: i64, q: i64) -> bool
-    ensures { λ b. ⌜ b ≡ opposite p q ⌝ }
-{
-    ((p < 0) & (0 < q)) | ((0 < p) & (q < 0))
-}
-
 // The fourth turn of two segments, by the other three.
 fn fourth(p: i64, q: i64, r: i64) -> i64
     requires { ⌜ (abs (p -ℤ q) ≤ 8000000000000000000) × (abs (r +ℤ (p -ℤ q)) ≤ 8000000000000000000) ⌝ }
@@ -164,19 +150,38 @@ fn fourth(p: i64, q: i64, r: i64) -> i64
     r + (p - q)
 }
 
-// The segments a b and c d meet: by three turns and with no branch on a sign. All cases are asked only where a turn is 0.
-pub fn segments_meet(a: Point, b: Point, c: Point, d: Point) -> bool
+// The rule, where the turns p and q of a, b to c and d are known, and whether an end is shared. On one line the order of the ends
+// decides, else the sides on which they lie: then segments that share an end meet nowhere else.
+fn meet_by_turns(a: Point, b: Point, c: Point, d: Point, p: i64, q: i64, share: bool) -> bool
+    requires { ⌜ InRange (spot a) × InRange (spot b) × InRange (spot c) × InRange (spot d) × (p ≡ turn (spot a) (spot b) (spot c)) × (q ≡ turn (spot a) (spot b) (spot d)) × (share ≡ shared (spot a) (spot b) (spot c) (spot d)) ⌝ }
+    ensures { λ r. ⌜ r ≡ meets (spot a) (spot b) (spot c) (spot d) ⌝ }
+{
+    if is_zero(p) & is_zero(q) {
+        return overlap(a, b, c, d);
+    }
+    let r = turn_of(c, d, a);
+    let s = fourth(p, q, r);
+    !share & (!same_side(p, q) & !same_side(r, s))
+}
+
+// The segments a b and c d meet.
+fn segments_meet(a: Point, b: Point, c: Point, d: Point) -> bool
     requires { ⌜ InRange (spot a) × InRange (spot b) × InRange (spot c) × InRange (spot d) ⌝ }
     ensures { λ r. ⌜ r ≡ meets (spot a) (spot b) (spot c) (spot d) ⌝ }
 {
     let p = turn_of(a, b, c);
     let q = turn_of(a, b, d);
-    let r = turn_of(c, d, a);
-    let s = fourth(p, q, r);
-    if any_zero(p, q, r, s) {
-        return meet_by_cases(a, b, c, d);
-    }
-    opposite_sides(p, q) & opposite_sides(r, s)
+    meet_by_turns(a, b, c, d, p, q, share(a, b, c, d))
+}
+
+// Two segments meet (`LineSegmentView::intersect`), where an end that they share is open in both, and no other. p and q are the turns of a1, a2 to b1 and b2:
+// one who goes from segment to segment along a ring has the first of them already.
+pub fn intersect(a1: EndPoint, a2: EndPoint, b1: EndPoint, b2: EndPoint, p: i64, q: i64) -> bool
+    requires { ⌜ InRange (endOf a1) × InRange (endOf a2) × InRange (endOf b1) × InRange (endOf b2) × (p ≡ turn (endOf a1) (endOf a2) (endOf b1)) × (q ≡ turn (endOf a1) (endOf a2) (endOf b2)) × ((isOpen (markOf a1) || isOpen (markOf a2)) ≡ shared (endOf a1) (endOf a2) (endOf b1) (endOf b2)) ⌝ }
+    ensures { λ r. ⌜ r ≡ meets (endOf a1) (endOf a2) (endOf b1) (endOf b2) ⌝ }
+{
+    let share = a1.is_open() | a2.is_open();
+    meet_by_turns(a1.inner(), a2.inner(), b1.inner(), b2.inner(), p, q, share)
 }
 
 // Whether two segments meet elsewhere than in an end of both (`intersects` of two_opt.rs, with shared ends exclusive).
@@ -196,16 +201,4 @@ pub fn inside_at(x: &[i32], y: &[i32], a: usize, b: usize, v: usize) -> bool
     ensures { λ r. ⌜ r ≡ inside (points (now (x .entry)) (now (y .entry)) a) (points (now (x .entry)) (now (y .entry)) b) (points (now (x .entry)) (now (y .entry)) v) ⌝ }
 {
     is_inside(point_at(x, y, a), point_at(x, y, b), point_at(x, y, v))
-}
-
-pub fn meets_at(x: &[i32], y: &[i32], a: usize, b: usize, c: usize, d: usize) -> bool
-    requires { ⌜ Here (now x) (now y) a × Here (now x) (now y) b × Here (now x) (now y) c × Here (now x) (now y) d ⌝ }
-    ensures { λ r. ⌜ r ≡ meets (points (now (x .entry)) (now (y .entry)) a) (points (now (x .entry)) (now (y .entry)) b) (points (now (x .entry)) (now (y .entry)) c) (points (now (x .entry)) (now (y .entry)) d) ⌝ }
-{
-    segments_meet(
-        point_at(x, y, a),
-        point_at(x, y, b),
-        point_at(x, y, c),
-        point_at(x, y, d),
-    )
 }
