@@ -15,7 +15,7 @@ use borrow.Author.Tests.{eq-eqb, ne-eqb, leb-true}
 use Rattle.algebra.specs.Size.{abs, abs-sub, abs-mul, mul-bound, fits, fits-abs}
 use Rattle.algebra.specs.Cases.{both, and-left, and-right}
 use Rattle.geometry.specs.Plane.{Point, isZero, eqZ, near, nearP}
-use Rattle.geometry.specs.Lent.{points, InRange, Here}
+use Rattle.geometry.specs.Lent.{points, InRange, Here, Lent}
 use Rattle.geometry.proofs.Points.{eqZ-cases}
 
 -- ---- reading back
@@ -77,3 +77,7 @@ gap-x {a} {b} ha hb z e = rw e (gap-near (a .x) (b .x) (ha .nx) (hb .nx))
 
 pub gap-y : {a b : Point} → InRange a → InRange b → (z : ℤ) → z ≡ a .y -ℤ b .y → abs z ≤ 2000000000
 gap-y {a} {b} ha hb z e = rw e (gap-near (a .y) (b .y) (ha .ny) (hb .ny))
+
+-- one of n lent points
+pub here : {n : ℕ} {x y : List ℤ} {i : ℕ} → Lent n x y → i < n → Here x y i
+here {i = i} l h = record { lx = omega (arith, l .lx); ly = omega (arith, l .ly); nx = l .nx i h; ny = l .ny i h }

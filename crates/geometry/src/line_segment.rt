@@ -121,7 +121,8 @@ pub fn is_inside(a: Point, b: Point, v: Point) -> bool
 
 // ---- meets
 
-fn same_side(p: i64, q: i64) -> bool
+// Both strictly on one side.
+pub fn same_side(p: i64, q: i64) -> bool
     ensures { λ r. ⌜ r ≡ sameSide p q ⌝ }
 {
     ((0 < p) & (0 < q)) | ((p < 0) & (q < 0))

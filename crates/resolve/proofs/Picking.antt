@@ -19,6 +19,7 @@ use Rattle.intersection_set.specs.Store.{Rec, empty, noRec, chosen}
 use Rattle.intersection_set.specs.Pool.{Pool}
 use Rattle.intersection_set.specs.Within.{Proper}
 use Rattle.intersection_set.specs.Holds.{Holds}
+use Rattle.machine.specs.Board.{Board}
 use Rattle.machine.specs.Machine.{Traced, place, begin, after, start}
 use Rattle.machine.specs.Answer.{refusal}
 use Rattle.machine.proofs.Accepted.{Accepted, accepted}
@@ -40,6 +41,9 @@ module _ (n : ℕ) (pt : ℕ → Point) (r : List ℕ) (h : refusal n pt false r
 
   pub start-few : n ≤ 256
   start-few = ok .few
+
+  pub start-board : Board n pt
+  start-board = ok .board
 
   pub start-two : 2 ≤ n
   start-two = omega (arith, ok .board .three)

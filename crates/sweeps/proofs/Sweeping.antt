@@ -12,30 +12,28 @@ use lib.Seq.{take-length}
 use native.Mathlib.Numerals.{add-one}
 use Rattle.algebra.specs.Ranges.{upFrom, upFrom-length}
 use borrow.Author.Tests.{ltb-true, ltb-false}
-use Rattle.algebra.specs.Cases.{both, le-cases, not-true, and-left}
+use Rattle.algebra.specs.Cases.{both, not-true, and-left}
 use Rattle.algebra.specs.Counting.{length-snoc}
 use Rattle.geometry.specs.Plane.{Point}
-use Rattle.geometry.specs.Lent.{Here, Lent}
+use Rattle.geometry.specs.Lent.{points, Lent}
 use Rattle.index_edge.specs.Edge.{Edge, edge, eqE, ltE}
 use Rattle.index_edge.proofs.Edges.{ltE-diff}
 use Rattle.polygon.specs.Ring.{IsRing, next, at}
 use Rattle.polygon.specs.Edges.{edgeAt, edges}
-use Rattle.polygon.proofs.Positions.{next-lt, next-not}
+use Rattle.polygon.proofs.Positions.{next-cases, next-lt, next-not}
 use Rattle.intersection_set.specs.Store.{Store, push, recFor, slotFor}
 use Rattle.intersection_set.specs.Within.{Proper}
 use Rattle.intersection_set.specs.Holds.{MayPush}
 use Rattle.intersection_set.proofs.Slots.{Grows}
-use Rattle.machine.specs.Board.{meetE}
+use Rattle.machine.specs.Board.{Board, meetE}
 use Rattle.machine.specs.Machine.{scanOver, pairsWith}
 use Rattle.machine.proofs.Bounds.{scanOver-append, pairsWith-append}
 use Rattle.machine.proofs.Kept.{scanOver-grows, pairsWith-grows}
 use Rattle.machine.proofs.Turns.{scan-turn, start-inner, edges-at}
-use Rattle.sweeps.specs.Sweep.{Between, firstOf, secondOf, wanted, sweepOver, Fits}
+use Rattle.sweeps.specs.Sweep.{Among, turnTo, Sees, firstOf, secondOf, wanted, sweepOver, Fits}
+use Rattle.sweeps.specs.declared.candidate.Seen.{Seen}
 
 -- ---- the ends of an edge
-pub here : {n : ℕ} {x y : List ℤ} {i : ℕ} → Lent n x y → i < n → Here x y i
-here {i = i} l h = record { lx = omega (arith, l .lx); ly = omega (arith, l .ly); nx = l .nx i h; ny = l .ny i h }
-
 pub proper-edge : (n a b : ℕ) → a < n → b < n → a ≢ b → Proper n (edge a b)
 proper-edge n a b ha hb d = go (ltb a b) refl
   where
@@ -43,20 +41,31 @@ proper-edge n a b ha hb d = go (ltb a b) refl
     go true u = record { up = ltb-true a b u; top = hb }
     go false u = record { up = omega (arith, d, ltb-false a b u); top = ha }
 
-pub proper-between : {n : ℕ} {x y : List ℤ} {e : Edge} → Lent n x y → Proper n e → Between x y e
-proper-between l p = record { first = here l (omega (arith, p .up, p .top)); second = here l (p .top) }
-
 -- an edge of the ring
 pub proper-at : {n : ℕ} {r : List ℕ} → IsRing n r → 2 ≤ n → (i : ℕ) → i < n → Proper n (edgeAt n r i)
 proper-at {n} {r} ring two i l =
     let l' = next-lt n i l in
     proper-edge n (at r i) (at r (next n i)) (ring .below i l) (ring .below (next n i) l') (λ z. next-not n i two l (sym (ring .apart i (next n i) l l' z)))
 
-pub between-at : {n : ℕ} {x y : List ℤ} {r : List ℕ} → Lent n x y → IsRing n r → (i : ℕ) → i < n → Between x y (edgeAt n r i)
-between-at {n} {r = r} lent ring i l =
-    let a = here lent (ring .below i l) in
-    let b = here lent (ring .below (next n i) (next-lt n i l)) in
-    both (le-cases (suc (at r i)) (at r (next n i))) (λ h. rw (h .1) (record { first = a; second = b })) (λ h. rw (h .1) (record { first = b; second = a }))
+pub two : {n : ℕ} {pt : ℕ → Point} → Board n pt → 2 ≤ n
+two b = omega (arith, b .three)
+
+-- ---- what is carried along the ring
+pub sees-itself : {pt : ℕ → Point} {e : Edge} {v : ℕ} {s : Seen} → Sees pt e v s → Sees pt e (s .id .0) s
+sees-itself {pt} {e} z = record { id = refl; turn = z .turn ∙ sym (ap (turnTo pt e) (z .id)) }
+
+-- the point after position i, where that is not the last
+pub sees-on : (n : ℕ) {pt : ℕ → Point} (r : List ℕ) {e : Edge} {s : Seen} (i : ℕ) → Sees pt e (at r (next n i)) s → i + 1 < n → Sees pt e (at r (i + 1)) s
+sees-on n {pt} r {e} {s} i z l =
+    both (next-cases n i) (λ h. absurd (omega (arith, h .0, l))) (λ h. subst (λ j. Sees pt e (at r j) s) (h .1 ∙ sym (add-one i)) z)
+
+-- the edge from the point at i to the next
+pub edge-is : (n : ℕ) (r : List ℕ) (i : ℕ) {v w : ℕ} → v ≡ at r i → w ≡ at r (next n i) → edge v w ≡ edgeAt n r i
+edge-is n r i ev ew = λ t. edge (ev t) (ew t)
+
+pub among-ring : {n : ℕ} {x y : List ℤ} {r : List ℕ} {e : Edge} {i v w : ℕ} → Lent n x y → IsRing n r → Board n (points x y) → Proper n e → i < n → v ≡ at r i → w ≡ at r (next n i) → Among x y e (edge v w)
+among-ring {n} {r = r} {i = i} lent ring board pe l ev ew =
+    record { n = n; lent = lent; distinct = board .distinct; first = pe; second = subst⁻¹ (Proper n) (edge-is n r i ev ew) (proper-at ring (two board) i l) }
 
 -- ---- one turn of the sweep
 module _ (pt : ℕ → Point) where

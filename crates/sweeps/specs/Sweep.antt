@@ -1,21 +1,36 @@
 -- One edge against every edge of the ring, at the start or in a move.
+use mathlib.Core.Path.{_≡_}
 use mathlib.Core.Bool.{Bool, true, false, not, _&&_, cond}
 use mathlib.Core.List.{List}
 use Prim.Native.Nat.{ℕ, _-_, _*_, _≤_}
 use lib.ListN.{length}
 use lib.IntN.{ℤ}
-use Rattle.geometry.specs.Plane.{Point}
-use Rattle.geometry.specs.Lent.{Here}
+use Rattle.geometry.specs.Plane.{Point, turn}
+use Rattle.geometry.specs.Lent.{points, Lent}
 use Rattle.index_edge.specs.Edge.{Edge, eqE, ltE}
 use Rattle.polygon.specs.Edges.{edges}
 use Rattle.intersection_set.specs.Store.{Store}
-use Rattle.machine.specs.Board.{meetE}
+use Rattle.intersection_set.specs.Within.{Proper}
+use Rattle.machine.specs.Board.{Distinct, meetE}
 use Rattle.machine.specs.Machine.{scanOver, pairsWith}
+use Rattle.sweeps.specs.declared.candidate.Seen.{Seen}
 
--- both ends of an edge are lent
-pub record Between (x y : List ℤ) (e : Edge) : Type 0 where
-  pub first : Here x y (e .lo)
-  pub second : Here x y (e .hi)
+-- two edges between lent points, no two of which are equal
+pub record Among (x y : List ℤ) (e f : Edge) : Type 0 where
+  pub n : ℕ
+  pub lent : Lent n x y
+  pub distinct : Distinct n (points x y)
+  pub first : Proper n e
+  pub second : Proper n f
+
+-- how an edge turns to a point
+abbrev pub turnTo : (ℕ → Point) → Edge → ℕ → ℤ
+turnTo pt e v = turn (pt (e .lo)) (pt (e .hi)) (pt v)
+
+-- what was seen of the point v from the edge e
+pub record Sees (pt : ℕ → Point) (e : Edge) (v : ℕ) (s : Seen) : Type 0 where
+  pub id : s .id .0 ≡ v
+  pub turn : s .turn ≡ turnTo pt e v
 
 -- in a move the other edge is pushed first, at the start the edge itself
 abbrev pub firstOf : Bool → Edge → Edge → Edge
@@ -26,10 +41,14 @@ abbrev pub secondOf : Bool → Edge → Edge → Edge
 secondOf true e f = e
 secondOf false e f = f
 
--- in a move every other edge that meets, at the start every greater one
+-- in a move every other edge is asked, at the start every greater one
+abbrev pub asked : Bool → Edge → Edge → Bool
+asked true e f = not (eqE f e)
+asked false e f = ltE e f
+
+-- one that is asked makes a record where it meets
 abbrev pub wanted : (ℕ → Point) → Bool → Edge → Edge → Bool
-wanted pt true e f = not (eqE f e) && meetE pt f e
-wanted pt false e f = ltE e f && meetE pt e f
+wanted pt b e f = asked b e f && meetE pt (firstOf b e f) (secondOf b e f)
 
 -- the whole sweep
 abbrev pub sweepOver : (ℕ → Point) → Bool → Edge → List Edge → Store → Store

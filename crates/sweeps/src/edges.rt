@@ -1,19 +1,24 @@
-// The edges of a ring, and what makes two of them a record.
+// The edges of a ring, and when two of them meet.
 ghost use mathlib.Core.Path.{_≡_};
-ghost use mathlib.Core.Bool.{true, false};
+ghost use mathlib.Core.Bool.{_||_};
 ghost use Prim.Native.Nat.{_<_};
-ghost use lib.ListN.{length};
-ghost use Rattle.geometry.specs.Lent.{points, Lent};
+ghost use lib.Dec.{eqb};
+ghost use Rattle.geometry.specs.Segment.{isOpen};
+ghost use Rattle.geometry.specs.Lent.{spot, points};
+ghost use Rattle.geometry.specs.Answers.{endOf, markOf};
 ghost use Rattle.index_edge.specs.Number.{edgeOf};
 ghost use Rattle.polygon.specs.Ring.{IsRing};
 ghost use Rattle.polygon.specs.Edges.{edgeAt};
 ghost use Rattle.machine.specs.Board.{meetE};
-ghost use Rattle.sweeps.specs.Sweep.{Between, firstOf, secondOf, wanted};
-use geometry::line_segment::meets_at;
+ghost use Rattle.sweeps.specs.Sweep.{Among, turnTo};
+use geometry::line_segment::EndPoint;
+use geometry::line_segment::intersect;
+use geometry::point::Point;
+use geometry::point::point_at;
 use index_edge::IndexEdge;
+use index_edge::PointId;
 use polygon::polygon::position_to_point_id;
 use polygon::position::Position;
-use polygon::position::PositionId;
 
 // The edge that starts at a position (two_opt.rs, `edges`).
 pub fn edge_at(ring: &[u16], at: Position) -> IndexEdge
@@ -28,78 +33,31 @@ pub fn edge_at(ring: &[u16], at: Position) -> IndexEdge
     )
 }
 
-// Two edges meet, an end that they share left out.
-fn intersects(x: &[i32], y: &[i32], a: IndexEdge, b: IndexEdge) -> bool
-    requires { ⌜ Between (now x) (now y) (edgeOf a) × Between (now x) (now y) (edgeOf b) ⌝ }
+// An end of an edge: point number a, which stands at t. It is open if it ends the edge from b to c, too.
+fn endpoint(a: PointId, b: PointId, c: PointId, t: Point) -> EndPoint
+    ensures { λ r. ⌜ (endOf r ≡ spot t) × (isOpen (markOf r) ≡ (eqb (a .0) (b .0) || eqb (a .0) (c .0))) ⌝ }
+{
+    if (a.0 == b.0) | (a.0 == c.0) {
+        EndPoint::Exclusive(t)
+    } else {
+        EndPoint::Inclusive(t)
+    }
+}
+
+// How an edge turns to the two ends of another.
+pub struct Sides {
+    pub min: i64,
+    pub max: i64,
+}
+
+// Two edges meet, an end that they share left out. How the first turns to the ends of the second is known.
+pub fn intersects(x: &[i32], y: &[i32], a: IndexEdge, b: IndexEdge, sides: Sides) -> bool
+    requires { ⌜ Among (now x) (now y) (edgeOf a) (edgeOf b) × (sides .min ≡ turnTo (points (now x) (now y)) (edgeOf a) (b .min .0)) × (sides .max ≡ turnTo (points (now x) (now y)) (edgeOf a) (b .max .0)) ⌝ }
     ensures { λ r. ⌜ r ≡ meetE (points (now (x .entry)) (now (y .entry))) (edgeOf a) (edgeOf b) ⌝ }
 {
-    let a_min = a.min.0 as usize;
-    let a_max = a.max.0 as usize;
-    let b_min = b.min.0 as usize;
-    let b_max = b.max.0 as usize;
-    meets_at(x, y, a_min, a_max, b_min, b_max)
-}
-
-// Two edges in the order in which they are pushed, and whether they are.
-pub struct Candidate {
-    pub first: IndexEdge,
-    pub second: IndexEdge,
-    pub ok: bool,
-}
-
-// What the start makes of an edge and another: a record where the other is greater and meets it.
-fn starting(x: &[i32], y: &[i32], edge: IndexEdge, other: IndexEdge) -> Candidate
-    requires { ⌜ Between (now x) (now y) (edgeOf edge) × Between (now x) (now y) (edgeOf other) ⌝ }
-    ensures { λ r. ⌜ (r .first ≡ edge) × (r .second ≡ other) × (r .ok ≡ wanted (points (now (x .entry)) (now (y .entry))) false (edgeOf edge) (edgeOf other)) ⌝ }
-{
-    let mut ok = false;
-    if edge.lt(other) {
-        ok = intersects(x, y, edge, other);
-    }
-    Candidate {
-        first: edge,
-        second: other,
-        ok: ok,
-    }
-}
-
-// What a move makes of a new edge and another: a record where the other is another and meets it.
-fn moving(x: &[i32], y: &[i32], edge: IndexEdge, other: IndexEdge) -> Candidate
-    requires { ⌜ Between (now x) (now y) (edgeOf edge) × Between (now x) (now y) (edgeOf other) ⌝ }
-    ensures { λ r. ⌜ (r .first ≡ other) × (r .second ≡ edge) × (r .ok ≡ wanted (points (now (x .entry)) (now (y .entry))) true (edgeOf edge) (edgeOf other)) ⌝ }
-{
-    let mut ok = false;
-    if !other.eq(edge) {
-        ok = intersects(x, y, other, edge);
-    }
-    Candidate {
-        first: other,
-        second: edge,
-        ok: ok,
-    }
-}
-
-// What an edge and the ring's edge at position i make, in a move or at the start.
-pub fn candidate_at(
-    moves: bool,
-    n: usize,
-    x: &[i32],
-    y: &[i32],
-    ring: &[u16],
-    edge: IndexEdge,
-    i: usize,
-) -> Candidate
-    requires { ⌜ Lent n (now x) (now y) × IsRing n (now ring) × (i < n) × Between (now x) (now y) (edgeOf edge) ⌝ }
-    ensures { λ r. ⌜ (edgeOf (r .first) ≡ firstOf moves (edgeOf edge) (edgeAt n (now (ring .entry)) i)) × (edgeOf (r .second) ≡ secondOf moves (edgeOf edge) (edgeAt n (now (ring .entry)) i)) × (r .ok ≡ wanted (points (now (x .entry)) (now (y .entry))) moves (edgeOf edge) (edgeAt n (now (ring .entry)) i)) ⌝ }
-{
-    let at = Position {
-        id: PositionId(i as u16),
-        size: n as u16,
-    };
-    let other = edge_at(ring, at);
-    if moves {
-        moving(x, y, edge, other)
-    } else {
-        starting(x, y, edge, other)
-    }
+    let a_min = endpoint(a.min, b.min, b.max, point_at(x, y, a.min.0 as usize));
+    let a_max = endpoint(a.max, b.min, b.max, point_at(x, y, a.max.0 as usize));
+    let b_min = endpoint(b.min, a.min, a.max, point_at(x, y, b.min.0 as usize));
+    let b_max = endpoint(b.max, a.min, a.max, point_at(x, y, b.max.0 as usize));
+    intersect(a_min, a_max, b_min, b_max, sides.min, sides.max)
 }

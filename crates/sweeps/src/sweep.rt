@@ -13,9 +13,12 @@ ghost use Rattle.intersection_set.specs.Store.{Store, removes};
 ghost use Rattle.intersection_set.specs.Pool.{poolOf};
 ghost use Rattle.intersection_set.specs.Within.{Proper};
 ghost use Rattle.intersection_set.specs.Holds.{Holds, Beyond};
+ghost use Rattle.machine.specs.Board.{Board};
 ghost use Rattle.sweeps.specs.Sweep.{sweepOver, Fits};
 ghost use Rattle.sweeps.specs.Few.{fewOf, source, sweepsOver, AllProper, FitAll};
-use super::edges::candidate_at;
+use super::candidate::candidate_between;
+use super::candidate::seen_after;
+use super::candidate::seen_first;
 use super::few::Few;
 use super::few::source_at;
 use super::few::source_len;
@@ -46,15 +49,18 @@ pub fn sweep(
     reverse: &mut [u16],
     free: &[u16],
 ) -> Counts
-    requires { ⌜ Lent n (now x) (now y) × IsRing n (now ring) × (2 ≤ n) × Proper n (edgeOf edge) × ((s : Store) × Holds n (poolOf (now heads) (now min0) (now max0) (now next0) (now prev0) (now min1) (now max1) (now next1) (now prev1) (now dense) (now reverse) (now free) c) s × Fits n (points (now x) (now y)) (now ring) moves (edgeOf edge) s) ⌝ }
+    requires { ⌜ Lent n (now x) (now y) × IsRing n (now ring) × Board n (points (now x) (now y)) × Proper n (edgeOf edge) × ((s : Store) × Holds n (poolOf (now heads) (now min0) (now max0) (now next0) (now prev0) (now min1) (now max1) (now next1) (now prev1) (now dense) (now reverse) (now free) c) s × Fits n (points (now x) (now y)) (now ring) moves (edgeOf edge) s) ⌝ }
     ensures { λ r. ⌜ ((s : Store) → Holds n (poolOf (now (heads .entry)) (now (min0 .entry)) (now (max0 .entry)) (now (next0 .entry)) (now (prev0 .entry)) (now (min1 .entry)) (now (max1 .entry)) (now (next1 .entry)) (now (prev1 .entry)) (now (dense .entry)) (now (reverse .entry)) (now (free .entry)) c) s → Fits n (points (now (x .entry)) (now (y .entry))) (now (ring .entry)) moves (edgeOf edge) s
         → Holds n (poolOf (now (heads .exit)) (now (min0 .exit)) (now (max0 .exit)) (now (next0 .exit)) (now (prev0 .exit)) (now (min1 .exit)) (now (max1 .exit)) (now (next1 .exit)) (now (prev1 .exit)) (now (dense .exit)) (now (reverse .exit)) (now (free .entry)) r) (sweepOver (points (now (x .entry)) (now (y .entry))) moves (edgeOf edge) (edges n (now (ring .entry))) s))
         × Beyond (n * (n - 1)) (poolOf (now (heads .exit)) (now (min0 .exit)) (now (max0 .exit)) (now (next0 .exit)) (now (prev0 .exit)) (now (min1 .exit)) (now (max1 .exit)) (now (next1 .exit)) (now (prev1 .exit)) (now (dense .exit)) (now (reverse .exit)) (now (free .entry)) r) (poolOf (now (heads .entry)) (now (min0 .entry)) (now (max0 .entry)) (now (next0 .entry)) (now (prev0 .entry)) (now (min1 .entry)) (now (max1 .entry)) (now (next1 .entry)) (now (prev1 .entry)) (now (dense .entry)) (now (reverse .entry)) (now (free .entry)) c) ⌝ }
 {
     let mut k = c;
+    let mut from = seen_first(n, x, y, ring, edge);
     let mut i: usize = 0;
     while i < n {
-        let pair = candidate_at(moves, n, x, y, ring, edge, i);
+        let to = seen_after(n, x, y, ring, edge, i);
+        let pair = candidate_between(moves, x, y, edge, from, to);
+        from = to;
         let first = pair.first;
         let second = pair.second;
         k = push_if(
@@ -103,7 +109,7 @@ pub fn sweeps(
     reverse: &mut [u16],
     free: &[u16],
 ) -> Counts
-    requires { ⌜ Lent n (now x) (now y) × IsRing n (now ring) × (2 ≤ n) × (inserted .count ≤ 3) × AllProper n (source moves n (now ring) inserted) × ((s : Store) × Holds n (poolOf (now heads) (now min0) (now max0) (now next0) (now prev0) (now min1) (now max1) (now next1) (now prev1) (now dense) (now reverse) (now free) c) s × FitAll n (points (now x) (now y)) (now ring) moves (source moves n (now ring) inserted) s) ⌝ }
+    requires { ⌜ Lent n (now x) (now y) × IsRing n (now ring) × Board n (points (now x) (now y)) × (inserted .count ≤ 3) × AllProper n (source moves n (now ring) inserted) × ((s : Store) × Holds n (poolOf (now heads) (now min0) (now max0) (now next0) (now prev0) (now min1) (now max1) (now next1) (now prev1) (now dense) (now reverse) (now free) c) s × FitAll n (points (now x) (now y)) (now ring) moves (source moves n (now ring) inserted) s) ⌝ }
     ensures { λ r. ⌜ ((s : Store) → Holds n (poolOf (now (heads .entry)) (now (min0 .entry)) (now (max0 .entry)) (now (next0 .entry)) (now (prev0 .entry)) (now (min1 .entry)) (now (max1 .entry)) (now (next1 .entry)) (now (prev1 .entry)) (now (dense .entry)) (now (reverse .entry)) (now (free .entry)) c) s → FitAll n (points (now (x .entry)) (now (y .entry))) (now (ring .entry)) moves (source moves n (now (ring .entry)) inserted) s
         → Holds n (poolOf (now (heads .exit)) (now (min0 .exit)) (now (max0 .exit)) (now (next0 .exit)) (now (prev0 .exit)) (now (min1 .exit)) (now (max1 .exit)) (now (next1 .exit)) (now (prev1 .exit)) (now (dense .exit)) (now (reverse .exit)) (now (free .entry)) r) (sweepsOver (points (now (x .entry)) (now (y .entry))) moves (edges n (now (ring .entry))) (source moves n (now (ring .entry)) inserted) s))
         × Beyond (n * (n - 1)) (poolOf (now (heads .exit)) (now (min0 .exit)) (now (max0 .exit)) (now (next0 .exit)) (now (prev0 .exit)) (now (min1 .exit)) (now (max1 .exit)) (now (next1 .exit)) (now (prev1 .exit)) (now (dense .exit)) (now (reverse .exit)) (now (free .entry)) r) (poolOf (now (heads .entry)) (now (min0 .entry)) (now (max0 .entry)) (now (next0 .entry)) (now (prev0 .entry)) (now (min1 .entry)) (now (max1 .entry)) (now (next1 .entry)) (now (prev1 .entry)) (now (dense .entry)) (now (reverse .entry)) (now (free .entry)) c) ⌝ }

@@ -126,7 +126,7 @@ module _ {n : ℕ} {pt : ℕ → Point} {r cs ring' index : List ℕ} {p : Pool}
   pub the-board : Board n pt
   the-board = ok .board
 
-  pub at-least-two : 2 ≤ n
+  at-least-two : 2 ≤ n
   at-least-two = two n pt r cs ok
 
   pub small : n ≤ 256

@@ -8,7 +8,7 @@ use Rattle.intersection_set.specs.Store.{empty}
 use Rattle.intersection_set.specs.Pool.{poolOf}
 use Rattle.intersection_set.proofs.Starting.{sized-start}
 use Rattle.intersection_set.proofs.PastTheEnd.{beyond-then}
-use Rattle.resolve.proofs.Picking.{start-ring, start-few, start-two, start-proper, start-room}
+use Rattle.resolve.proofs.Picking.{start-ring, start-few, start-board, start-two, start-proper, start-room}
 use Rattle.resolve.proofs.run.begin.Statement.{statement}
 use Rattle.resolve.proofs.run.begin.Tie as tie
 
@@ -35,7 +35,7 @@ sweeps-requires c κs =
     let p = poolOf (now (a .heads)) (now (a .min0)) (now (a .max0)) (now (a .next0)) (now (a .prev0)) (now (a .min1)) (now (a .max1)) (now (a .next1)) (now (a .prev1)) (now (a .dense)) (now (a .reverse)) (now (a .free)) k in (
       s .pre .0,
       start-ring n pt r (q .1),
-      start-two n pt r (q .1),
+      start-board n pt r (q .1),
       c .before .before .before .before .before .before .before .before .before .before .before .no-edges .ensures,
       start-proper n pt r (q .1),
       (empty, c .before .before .before .before .before .before .before .before .before .before .before .before .before .before .clear .ensures .0 _ (sized-start p _ k (c .before .before .before .before .before .before .before .before .before .before .before .before .before .before .clear .kept .1 .0) (q .2 k)) refl refl, start-room n pt r (q .1)),

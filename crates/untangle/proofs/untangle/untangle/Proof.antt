@@ -19,7 +19,7 @@ use Rattle.machine.specs.Machine.{scans}
 use Rattle.moves.specs.Plan.{planOf}
 use Rattle.sweeps.specs.Few.{fewOf, AllProper, FitAll}
 use Rattle.untangle.specs.Running.{stateAfter, Running, Picked}
-use Rattle.untangle.proofs.Untangling.{the-board, at-least-two, small, the-ring, inverse, crosses, the-plan, plan-fits-ring, cuts-proper, lays-proper, turned-is-ring, room-as, next-running}
+use Rattle.untangle.proofs.Untangling.{the-board, small, the-ring, inverse, crosses, the-plan, plan-fits-ring, cuts-proper, lays-proper, turned-is-ring, room-as, next-running}
 use Rattle.untangle.proofs.untangle.untangle.Statement.{statement}
 use Rattle.untangle.proofs.untangle.untangle.Tie as tie
 
@@ -88,7 +88,7 @@ sweeps-requires c κs =
     let store = stateAfter n (points (now (s .args .x)) (now (s .args .y))) (p .0) (p .1) .store in (
       s .pre .0,
       subst⁻¹ (IsRing n) et (turned-is-ring (p .3) (p .4)),
-      at-least-two (p .3) (p .4),
+      the-board (p .3) (p .4),
       c .before .before .before .before .before .before .before .before .before .before .before .before .before .before .before .before .before .before .before .before .before .before .before .before .before .before .before .before .before .before .before .before .before .before .before .before .before .before .before .before .before .before .before .before .before .before .before .before .before .inserted-edges .ensures .1,
       subst⁻¹ (AllProper n) el (lays-proper (p .3) (p .4)),
       (removes (fewOf (c .before .before .before .before .before .before .before .before .before .before .before .before .before .before .before .before .before .before .before .before .before .before .before .before .before .before .before .before .before .before .before .before .before .before .before .before .before .before .before .before .before .before .before .before .before .before .before .before .before .before .before .removed-edges .result)) store, c .before .before .before .before .before .before .before .before .before .before .before .before .before .before .before .before .before .before .before .before .before .before .before .before .before .before .before .before .before .before .before .before .before .before .before .before .remove-edges .ensures .0 store (p .3 .holds), room-as (p .3) (p .4) et el ec),
