@@ -18,6 +18,7 @@ use Rattle.geometry.specs.Plane.{Point}
 use Rattle.geometry.specs.Lent.{points, Lent}
 use Rattle.index_edge.specs.Edge.{Edge, edge, eqE, ltE}
 use Rattle.index_edge.proofs.Edges.{ltE-diff}
+use Rattle.index_edge.specs.Number.{edgeOf}
 use Rattle.polygon.specs.Ring.{IsRing, next, at}
 use Rattle.polygon.specs.Edges.{edgeAt, edges}
 use Rattle.polygon.proofs.Positions.{next-cases, next-lt, next-not}
@@ -30,8 +31,10 @@ use Rattle.machine.specs.Machine.{scanOver, pairsWith}
 use Rattle.machine.proofs.Bounds.{scanOver-append, pairsWith-append}
 use Rattle.machine.proofs.Kept.{scanOver-grows, pairsWith-grows}
 use Rattle.machine.proofs.Turns.{scan-turn, start-inner, edges-at}
-use Rattle.sweeps.specs.Sweep.{Among, turnTo, Sees, firstOf, secondOf, wanted, sweepOver, Fits}
-use Rattle.sweeps.specs.declared.candidate.Seen.{Seen}
+use Rattle.sweeps.specs.Sweep.{firstOf, secondOf, wanted, sweepOver, Fits}
+use Rattle.sweeps.specs.Sight.{Among, turnTo, Spans, Sees, Sight}
+use Rattle.sweeps.specs.declared.intersects.Segment.{Segment}
+use Rattle.sweeps.specs.declared.intersects.Seen.{Seen}
 
 -- ---- the ends of an edge
 pub proper-edge : (n a b : ℕ) → a < n → b < n → a ≢ b → Proper n (edge a b)
@@ -51,8 +54,8 @@ pub two : {n : ℕ} {pt : ℕ → Point} → Board n pt → 2 ≤ n
 two b = omega (arith, b .three)
 
 -- ---- what is carried along the ring
-pub sees-itself : {pt : ℕ → Point} {e : Edge} {v : ℕ} {s : Seen} → Sees pt e v s → Sees pt e (s .id .0) s
-sees-itself {pt} {e} z = record { id = refl; turn = z .turn ∙ sym (ap (turnTo pt e) (z .id)) }
+sees-itself : {pt : ℕ → Point} {e : Edge} {v : ℕ} {s : Seen} → Sees pt e v s → Sees pt e (s .id .0) s
+sees-itself {pt} {e} z = record { number = refl; place = z .place ∙ sym (ap pt (z .number)); side = z .side ∙ sym (ap (turnTo pt e) (z .number)) }
 
 -- the point after position i, where that is not the last
 pub sees-on : (n : ℕ) {pt : ℕ → Point} (r : List ℕ) {e : Edge} {s : Seen} (i : ℕ) → Sees pt e (at r (next n i)) s → i + 1 < n → Sees pt e (at r (i + 1)) s
@@ -63,9 +66,15 @@ sees-on n {pt} r {e} {s} i z l =
 pub edge-is : (n : ℕ) (r : List ℕ) (i : ℕ) {v w : ℕ} → v ≡ at r i → w ≡ at r (next n i) → edge v w ≡ edgeAt n r i
 edge-is n r i ev ew = λ t. edge (ev t) (ew t)
 
-pub among-ring : {n : ℕ} {x y : List ℤ} {r : List ℕ} {e : Edge} {i v w : ℕ} → Lent n x y → IsRing n r → Board n (points x y) → Proper n e → i < n → v ≡ at r i → w ≡ at r (next n i) → Among x y e (edge v w)
-among-ring {n} {r = r} {i = i} lent ring board pe l ev ew =
-    record { n = n; lent = lent; distinct = board .distinct; first = pe; second = subst⁻¹ (Proper n) (edge-is n r i ev ew) (proper-at ring (two board) i l) }
+pub sight : {n : ℕ} {x y : List ℤ} {r : List ℕ} {a : Segment} {from to : Seen} {i : ℕ} → Lent n x y → IsRing n r → Board n (points x y) → Proper n (edgeOf (a .edge)) → i < n → Spans (points x y) a →
+    Sees (points x y) (edgeOf (a .edge)) (at r i) from → Sees (points x y) (edgeOf (a .edge)) (at r (next n i)) to → Sight x y a from to
+sight {n} {r = r} {i = i} lent ring board pe l s f t =
+    record {
+      among = record { n = n; lent = lent; distinct = board .distinct; first = pe; second = subst⁻¹ (Proper n) (edge-is n r i (f .number) (t .number)) (proper-at ring (two board) i l) };
+      spans = s;
+      first = sees-itself f;
+      second = sees-itself t;
+    }
 
 -- ---- one turn of the sweep
 module _ (pt : ℕ → Point) where

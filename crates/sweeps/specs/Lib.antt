@@ -1,2 +1,3 @@
+pub mod Sight
 pub mod Sweep
 pub mod Few

@@ -1,36 +1,14 @@
 -- One edge against every edge of the ring, at the start or in a move.
-use mathlib.Core.Path.{_≡_}
 use mathlib.Core.Bool.{Bool, true, false, not, _&&_, cond}
 use mathlib.Core.List.{List}
 use Prim.Native.Nat.{ℕ, _-_, _*_, _≤_}
 use lib.ListN.{length}
-use lib.IntN.{ℤ}
-use Rattle.geometry.specs.Plane.{Point, turn}
-use Rattle.geometry.specs.Lent.{points, Lent}
+use Rattle.geometry.specs.Plane.{Point}
 use Rattle.index_edge.specs.Edge.{Edge, eqE, ltE}
 use Rattle.polygon.specs.Edges.{edges}
 use Rattle.intersection_set.specs.Store.{Store}
-use Rattle.intersection_set.specs.Within.{Proper}
-use Rattle.machine.specs.Board.{Distinct, meetE}
+use Rattle.machine.specs.Board.{meetE}
 use Rattle.machine.specs.Machine.{scanOver, pairsWith}
-use Rattle.sweeps.specs.declared.candidate.Seen.{Seen}
-
--- two edges between lent points, no two of which are equal
-pub record Among (x y : List ℤ) (e f : Edge) : Type 0 where
-  pub n : ℕ
-  pub lent : Lent n x y
-  pub distinct : Distinct n (points x y)
-  pub first : Proper n e
-  pub second : Proper n f
-
--- how an edge turns to a point
-abbrev pub turnTo : (ℕ → Point) → Edge → ℕ → ℤ
-turnTo pt e v = turn (pt (e .lo)) (pt (e .hi)) (pt v)
-
--- what was seen of the point v from the edge e
-pub record Sees (pt : ℕ → Point) (e : Edge) (v : ℕ) (s : Seen) : Type 0 where
-  pub id : s .id .0 ≡ v
-  pub turn : s .turn ≡ turnTo pt e v
 
 -- in a move the other edge is pushed first, at the start the edge itself
 abbrev pub firstOf : Bool → Edge → Edge → Edge

@@ -2,4 +2,5 @@
 pub mod candidate;
 pub mod edges;
 pub mod few;
+pub mod intersects;
 pub mod sweep;

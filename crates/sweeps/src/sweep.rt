@@ -17,11 +17,12 @@ ghost use Rattle.machine.specs.Board.{Board};
 ghost use Rattle.sweeps.specs.Sweep.{sweepOver, Fits};
 ghost use Rattle.sweeps.specs.Few.{fewOf, source, sweepsOver, AllProper, FitAll};
 use super::candidate::candidate_between;
-use super::candidate::seen_after;
-use super::candidate::seen_first;
 use super::few::Few;
 use super::few::source_at;
 use super::few::source_len;
+use super::intersects::seen_after;
+use super::intersects::seen_first;
+use super::intersects::segment_of;
 use index_edge::IndexEdge;
 use intersection_set::intersection_set::push_if;
 use intersection_set::intersection_set::remove_all;
@@ -55,11 +56,12 @@ pub fn sweep(
         × Beyond (n * (n - 1)) (poolOf (now (heads .exit)) (now (min0 .exit)) (now (max0 .exit)) (now (next0 .exit)) (now (prev0 .exit)) (now (min1 .exit)) (now (max1 .exit)) (now (next1 .exit)) (now (prev1 .exit)) (now (dense .exit)) (now (reverse .exit)) (now (free .entry)) r) (poolOf (now (heads .entry)) (now (min0 .entry)) (now (max0 .entry)) (now (next0 .entry)) (now (prev0 .entry)) (now (min1 .entry)) (now (max1 .entry)) (now (next1 .entry)) (now (prev1 .entry)) (now (dense .entry)) (now (reverse .entry)) (now (free .entry)) c) ⌝ }
 {
     let mut k = c;
-    let mut from = seen_first(n, x, y, ring, edge);
+    let a = segment_of(x, y, edge);
+    let mut from = seen_first(n, x, y, ring, a);
     let mut i: usize = 0;
     while i < n {
-        let to = seen_after(n, x, y, ring, edge, i);
-        let pair = candidate_between(moves, x, y, edge, from, to);
+        let to = seen_after(n, x, y, ring, a, i);
+        let pair = candidate_between(moves, a, from, to);
         from = to;
         let first = pair.first;
         let second = pair.second;

@@ -1,12 +1,11 @@
 -- `candidate_between` meets its contract: the other edge is that of the two points.
-use mathlib.Core.Path.{_≡_, refl, sym, _∙_, ap, subst, subst⁻¹}
+use mathlib.Core.Path.{_≡_, refl, _∙_, ap}
 use mathlib.Core.Bool.{Bool, true, false}
-use denote.Ref.{now}
 use borrow.Author.Needs.{needs}
 use Rattle.geometry.specs.Lent.{points}
-use Rattle.index_edge.specs.Edge.{Edge}
+use Rattle.index_edge.specs.Edge.{edge}
 use Rattle.index_edge.specs.Number.{edgeOf}
-use Rattle.sweeps.specs.Sweep.{Among, wanted}
+use Rattle.sweeps.specs.Sweep.{wanted}
 use Rattle.sweeps.proofs.candidate.candidate_between.Statement.{statement}
 use Rattle.sweeps.proofs.candidate.candidate_between.Tie as tie
 
@@ -14,26 +13,19 @@ new-requires : tie.Need-new-requires
 new-requires c κs = search needs
 
 is-wanted-requires : tie.Need-is-wanted-requires
-is-wanted-requires c κs =
-    let a = c .before .args in
-    let p = c .before .pre in
-    (subst⁻¹ (Among (now (a .x)) (now (a .y)) (edgeOf (a .edge))) (c .new .ensures) (p .0), c .new .ensures, p .1, p .2)
+is-wanted-requires c κs = (c .new .ensures, c .before .before .pre)
 
 returns : tie.Need-returns
 returns c =
-    let a = c .before .before .before .args in
-    let pt = points (now (a .x)) (now (a .y)) in
-    let m : a .moves ≡ true = c .if1 .taken in
-    let e = c .before .before .new .ensures in
-    rw m (e, refl, c .before .is-wanted .ensures ∙ ap (λ (k : Bool). wanted pt k (edgeOf (a .edge)) (edgeOf (c .before .before .new .result))) m ∙ ap (λ (f : Edge). wanted pt true (edgeOf (a .edge)) f) e)
+    let s = c .before .before .before .before .args in
+    let m : s .moves ≡ true = c .if1 .taken in
+    rw m (c .before .before .new .ensures, refl, λ x y v. c .before .is-wanted .ensures x y v ∙ ap (λ (k : Bool). wanted (points x y) k (edgeOf (s .a .edge)) (edge (s .from .id .0) (s .to .id .0))) m)
 
 returns-2 : tie.Need-returns-2
 returns-2 c =
-    let a = c .before .before .before .args in
-    let pt = points (now (a .x)) (now (a .y)) in
-    let m : a .moves ≡ false = c .if1 .left in
-    let e = c .before .before .new .ensures in
-    rw m (refl, e, c .before .is-wanted .ensures ∙ ap (λ (k : Bool). wanted pt k (edgeOf (a .edge)) (edgeOf (c .before .before .new .result))) m ∙ ap (λ (f : Edge). wanted pt false (edgeOf (a .edge)) f) e)
+    let s = c .before .before .before .before .args in
+    let m : s .moves ≡ false = c .if1 .left in
+    rw m (refl, c .before .before .new .ensures, λ x y v. c .before .is-wanted .ensures x y v ∙ ap (λ (k : Bool). wanted (points x y) k (edgeOf (s .a .edge)) (edge (s .from .id .0) (s .to .id .0))) m)
 
 pub candidate-between-spec : {M : Type 1} → statement M
 candidate-between-spec = tie.close (tie.spec new-requires is-wanted-requires returns returns-2)

@@ -1,90 +1,108 @@
 -- `sweep` meets its contract. The loop's invariant: whatever store the buffers held, they now hold it after a sweep over the edges before i.
 use Prim.Native.Nat.{ℕ, _-_, _*_, _≤_, _<_}
-use mathlib.Core.Path.{_≡_, ap, _∙_, subst}
+use mathlib.Core.Path.{_≡_, ap, _∙_, subst, subst⁻¹}
 use mathlib.Core.Bool.{true}
 use native.Mathlib.Omega.{arith}
 use lib.ListN.{take}
 use denote.Ref.{now}
 use Rattle.geometry.specs.Lent.{points}
+use Rattle.geometry.proofs.Reading.{here}
 use Rattle.index_edge.specs.Edge.{Edge}
 use Rattle.index_edge.specs.Number.{edgeOf}
-use Rattle.polygon.specs.Ring.{at, next}
+use Rattle.polygon.specs.Ring.{at}
 use Rattle.polygon.specs.Edges.{edgeAt, edges}
 use Rattle.intersection_set.specs.Store.{Store}
 use Rattle.intersection_set.specs.Pool.{poolOf}
+use Rattle.intersection_set.specs.Within.{Proper}
 use Rattle.intersection_set.specs.Holds.{Holds, MayPush, Beyond}
 use Rattle.intersection_set.proofs.Lengths.{SameSize, same-self}
 use Rattle.intersection_set.proofs.PastTheEnd.{beyond-self, beyond-then}
-use Rattle.sweeps.specs.Sweep.{Sees, firstOf, secondOf, wanted, sweepOver, Fits}
-use Rattle.sweeps.proofs.Sweeping.{two, sees-itself, sees-on, edge-is, among-ring, may-now, next-is, sweep-none, sweep-all}
+use Rattle.sweeps.specs.Sight.{Sees, Sight}
+use Rattle.sweeps.specs.Sweep.{firstOf, secondOf, wanted, sweepOver, Fits}
+use Rattle.sweeps.proofs.Sweeping.{two, sees-on, edge-is, sight, may-now, next-is, sweep-none, sweep-all}
 use Rattle.sweeps.proofs.sweep.sweep.Statement.{statement}
 use Rattle.sweeps.proofs.sweep.sweep.Tie as tie
 
 abbrev Inv-loop : tie.InvT-loop
-Inv-loop moves n edge x y ring heads₀ min0₀ max0₀ next0₀ prev0₀ min1₀ max1₀ next1₀ prev1₀ dense₀ reverse₀ free k₀ from₀ i₀ heads min0 max0 next0 prev0 min1 max1 next1 prev1 dense reverse k from i =
+Inv-loop moves n x y ring heads₀ min0₀ max0₀ next0₀ prev0₀ min1₀ max1₀ next1₀ prev1₀ dense₀ reverse₀ free k₀ a from₀ i₀ heads min0 max0 next0 prev0 min1 max1 next1 prev1 dense reverse k from i =
     let p = poolOf heads min0 max0 next0 prev0 min1 max1 next1 prev1 dense reverse free k in
     let p₀ = poolOf heads₀ min0₀ max0₀ next0₀ prev0₀ min1₀ max1₀ next1₀ prev1₀ dense₀ reverse₀ free k₀ in
     (i ≤ n) × SameSize p p₀
-    × ((s : Store) → Holds n p₀ s → Fits n (points x y) ring moves (edgeOf edge) s → Holds n p (sweepOver (points x y) moves (edgeOf edge) (take i (edges n ring)) s))
+    × ((s : Store) → Holds n p₀ s → Fits n (points x y) ring moves (edgeOf (a .edge)) s → Holds n p (sweepOver (points x y) moves (edgeOf (a .edge)) (take i (edges n ring)) s))
     × Beyond (n * (n - 1)) p p₀
-    × (i < n → Sees (points x y) (edgeOf edge) (at ring i) from)
+    × (i < n → Sees (points x y) (edgeOf (a .edge)) (at ring i) from)
 
 abbrev μ-loop : tie.MeasureT-loop
-μ-loop moves n edge x y ring heads₀ min0₀ max0₀ next0₀ prev0₀ min1₀ max1₀ next1₀ prev1₀ dense₀ reverse₀ free k₀ from₀ i₀ heads min0 max0 next0 prev0 min1 max1 next1 prev1 dense reverse k from i = n - i
+μ-loop moves n x y ring heads₀ min0₀ max0₀ next0₀ prev0₀ min1₀ max1₀ next1₀ prev1₀ dense₀ reverse₀ free k₀ a from₀ i₀ heads min0 max0 next0 prev0 min1 max1 next1 prev1 dense reverse k from i = n - i
+
+segment-of-requires : tie.Need-segment-of-requires Inv-loop μ-loop
+segment-of-requires c κs = let p = c .before .before .before .before .before .before .before .before .before .before .before .before .before .pre in (here (p .0) (omega (arith, p .3 .up, p .3 .top)), here (p .0) (p .3 .top))
 
 seen-first-requires : tie.Need-seen-first-requires Inv-loop μ-loop
-seen-first-requires c κs = let p = c .before .before .before .before .before .before .before .before .before .before .before .before .before .pre in (p .0, p .1, omega (arith, p .2 .three), p .3)
+seen-first-requires c κs =
+    let p = c .before .before .before .before .before .before .before .before .before .before .before .before .before .before .pre in
+    let e = c .segment-of .ensures in
+    (p .0, p .1, omega (arith, p .2 .three), subst⁻¹ (Proper (c .before .before .before .before .before .before .before .before .before .before .before .before .before .before .args .n)) (ap edgeOf (e .0)) (p .3), e .1)
 
 loop-holds : tie.Need-loop-holds Inv-loop μ-loop
 loop-holds c =
-    let a = c .before .before .before .before .before .before .before .before .before .before .before .before .before .before .args in
-    (omega arith, same-self _, λ s h f. subst (Holds (a .n) _) (sweep-none (points (now (a .x)) (now (a .y))) (a .moves) (edgeOf (a .edge)) (edges (a .n) (now (a .ring))) s) h, beyond-self _ _, λ l. c .seen-first .ensures)
+    let s = c .before .before .before .before .before .before .before .before .before .before .before .before .before .before .before .args in
+    (omega arith, same-self _, λ u h f. subst (Holds (s .n) _) (sweep-none (points (now (s .x)) (now (s .y))) (s .moves) (edgeOf (c .before .segment-of .result .edge)) (edges (s .n) (now (s .ring))) u) h, beyond-self _ _, λ l. c .seen-first .ensures)
+
+-- the edge is proper
+proper-a : (c : tie.At-loop Inv-loop μ-loop) → Proper (c .before .before .before .before .before .before .before .before .before .before .before .before .before .before .before .before .args .n) (edgeOf (c .before .before .segment-of .result .edge))
+proper-a c = subst⁻¹ (Proper (c .before .before .before .before .before .before .before .before .before .before .before .before .before .before .before .before .args .n)) (ap edgeOf (c .before .before .segment-of .ensures .0)) (c .before .before .before .before .before .before .before .before .before .before .before .before .before .before .before .before .pre .3)
 
 seen-after-requires : tie.Need-seen-after-requires Inv-loop μ-loop
-seen-after-requires c κs = let p = c .before .before .before .before .before .before .before .before .before .before .before .before .before .before .before .before .pre in (p .0, p .1, c .loop-test .taken, p .3)
+seen-after-requires c κs = let p = c .before .before .before .before .before .before .before .before .before .before .before .before .before .before .before .before .before .pre in (p .0, p .1, c .loop-test .taken, proper-a (c .before), c .before .before .before .segment-of .ensures .1)
+
+-- what is known of the edge at i
+sight-now : (c : tie.After-seen-after Inv-loop μ-loop) → let s = c .before .before .before .before .before .before .before .before .before .before .before .before .before .before .before .before .before .before .args in Sight (now (s .x)) (now (s .y)) (c .before .before .before .before .segment-of .result) (c .before .before .loop .from) (c .seen-after .result)
+sight-now c =
+    let p = c .before .before .before .before .before .before .before .before .before .before .before .before .before .before .before .before .before .before .pre in
+    sight (p .0) (p .1) (p .2) (proper-a (c .before .before)) (c .before .loop-test .taken) (c .before .before .before .before .segment-of .ensures .1) (c .before .before .loop .inv .4 (c .before .loop-test .taken)) (c .seen-after .ensures)
 
 candidate-between-requires : tie.Need-candidate-between-requires Inv-loop μ-loop
-candidate-between-requires c κs =
-    let p = c .before .before .before .before .before .before .before .before .before .before .before .before .before .before .before .before .before .pre in
-    let f = c .before .before .loop .inv .4 (c .before .loop-test .taken) in
-    let t = c .seen-after .ensures in
-    (among-ring (p .0) (p .1) (p .2) (p .3) (c .before .loop-test .taken) (f .id) (t .id), sees-itself f, sees-itself t)
+candidate-between-requires c κs = let s = c .before .before .before .before .before .before .before .before .before .before .before .before .before .before .before .before .before .before .args in (now (s .x), now (s .y), sight-now c)
 
 -- the store after the edges before i
 abbrev so-far : tie.At-loop Inv-loop μ-loop → Store → Store
-so-far c s = let a = c .before .before .before .before .before .before .before .before .before .before .before .before .before .before .before .args in sweepOver (points (now (a .x)) (now (a .y))) (a .moves) (edgeOf (a .edge)) (take (c .loop .i) (edges (a .n) (now (a .ring)))) s
+so-far c u = let s = c .before .before .before .before .before .before .before .before .before .before .before .before .before .before .before .before .args in sweepOver (points (now (s .x)) (now (s .y))) (s .moves) (edgeOf (c .before .before .segment-of .result .edge)) (take (c .loop .i) (edges (s .n) (now (s .ring)))) u
 
 -- this turn's pair is that of the ring's edge at i
-pair-is : (c : tie.After-candidate-between Inv-loop μ-loop) → let a = c .before .before .before .before .before .before .before .before .before .before .before .before .before .before .before .before .before .before .args in let e = edgeOf (a .edge) in let f = edgeAt (a .n) (now (a .ring)) (c .before .before .before .loop .i) in (edgeOf (c .candidate-between .result .first) ≡ firstOf (a .moves) e f) × (edgeOf (c .candidate-between .result .second) ≡ secondOf (a .moves) e f) × (c .candidate-between .result .ok ≡ wanted (points (now (a .x)) (now (a .y))) (a .moves) e f)
+pair-is : (c : tie.After-candidate-between Inv-loop μ-loop) → let s = c .before .before .before .before .before .before .before .before .before .before .before .before .before .before .before .before .before .before .before .args in let e = edgeOf (c .before .before .before .before .before .segment-of .result .edge) in let f = edgeAt (s .n) (now (s .ring)) (c .before .before .before .loop .i) in (edgeOf (c .candidate-between .result .first) ≡ firstOf (s .moves) e f) × (edgeOf (c .candidate-between .result .second) ≡ secondOf (s .moves) e f) × (c .candidate-between .result .ok ≡ wanted (points (now (s .x)) (now (s .y))) (s .moves) e f)
 pair-is c =
-    let a = c .before .before .before .before .before .before .before .before .before .before .before .before .before .before .before .before .before .before .args in
+    let s = c .before .before .before .before .before .before .before .before .before .before .before .before .before .before .before .before .before .before .before .args in
+    let e = edgeOf (c .before .before .before .before .before .segment-of .result .edge) in
     let g = c .candidate-between .ensures in
-    let z = edge-is (a .n) (now (a .ring)) (c .before .before .before .loop .i) (c .before .before .before .loop .inv .4 (c .before .before .loop-test .taken) .id) (c .before .seen-after .ensures .id) in
-    (g .0 ∙ ap (λ (f : Edge). firstOf (a .moves) (edgeOf (a .edge)) f) z, g .1 ∙ ap (λ (f : Edge). secondOf (a .moves) (edgeOf (a .edge)) f) z, g .2 ∙ ap (λ (f : Edge). wanted (points (now (a .x)) (now (a .y))) (a .moves) (edgeOf (a .edge)) f) z)
+    let z = edge-is (s .n) (now (s .ring)) (c .before .before .before .loop .i) (c .before .before .before .loop .inv .4 (c .before .before .loop-test .taken) .number) (c .before .seen-after .ensures .number) in
+    (g .0 ∙ ap (λ (f : Edge). firstOf (s .moves) e f) z, g .1 ∙ ap (λ (f : Edge). secondOf (s .moves) e f) z, g .2 (now (s .x)) (now (s .y)) (sight-now (c .before)) ∙ ap (λ (f : Edge). wanted (points (now (s .x)) (now (s .y))) (s .moves) e f) z)
 
 -- this turn's push is allowed
-may : (c : tie.After-candidate-between Inv-loop μ-loop) (s : Store) → let a = c .before .before .before .before .before .before .before .before .before .before .before .before .before .before .before .before .before .before .args in Fits (a .n) (points (now (a .x)) (now (a .y))) (now (a .ring)) (a .moves) (edgeOf (a .edge)) s → c .candidate-between .result .ok ≡ true → MayPush (a .n) (edgeOf (c .candidate-between .result .first)) (edgeOf (c .candidate-between .result .second)) (so-far (c .before .before .before) s)
-may c s f t =
-    let a = c .before .before .before .before .before .before .before .before .before .before .before .before .before .before .before .before .before .before .args in
-    let p = c .before .before .before .before .before .before .before .before .before .before .before .before .before .before .before .before .before .before .pre in
+may : (c : tie.After-candidate-between Inv-loop μ-loop) (u : Store) → let s = c .before .before .before .before .before .before .before .before .before .before .before .before .before .before .before .before .before .before .before .args in Fits (s .n) (points (now (s .x)) (now (s .y))) (now (s .ring)) (s .moves) (edgeOf (c .before .before .before .before .before .segment-of .result .edge)) u → c .candidate-between .result .ok ≡ true → MayPush (s .n) (edgeOf (c .candidate-between .result .first)) (edgeOf (c .candidate-between .result .second)) (so-far (c .before .before .before) u)
+may c u f t =
+    let s = c .before .before .before .before .before .before .before .before .before .before .before .before .before .before .before .before .before .before .before .args in
+    let p = c .before .before .before .before .before .before .before .before .before .before .before .before .before .before .before .before .before .before .before .pre in
     let e = pair-is c in
-    may-now (a .moves) (edgeOf (a .edge)) (c .before .before .before .loop .i) s (p .1) (two (p .2)) (c .before .before .loop-test .taken) (p .3) f (e .0) (e .1) (e .2) t
+    may-now (s .moves) (edgeOf (c .before .before .before .before .before .segment-of .result .edge)) (c .before .before .before .loop .i) u (p .1) (two (p .2)) (c .before .before .loop-test .taken) (proper-a (c .before .before .before)) f (e .0) (e .1) (e .2) t
 
 push-if-requires : tie.Need-push-if-requires Inv-loop μ-loop
 push-if-requires c κs = λ t.
-    let q = c .before .before .before .before .before .before .before .before .before .before .before .before .before .before .before .before .before .before .before .before .before .before .before .before .before .before .before .before .before .before .before .pre .4 in
-    (so-far (c .before .before .before .before .before .before .before .before .before .before .before .before .before .before .before .before) (q .0), c .before .before .before .before .before .before .before .before .before .before .before .before .before .before .before .before .loop .inv .2 (q .0) (q .1) (q .2), may (c .before .before .before .before .before .before .before .before .before .before .before .before .before) (q .0) (q .2) t)
+    let s = c .before .before .before .before .before .before .before .before .before .before .before .before .before .before .before .before .before .before .before .before .before .before .before .before .before .before .before .before .before .before .before .before .args in
+    let q = c .before .before .before .before .before .before .before .before .before .before .before .before .before .before .before .before .before .before .before .before .before .before .before .before .before .before .before .before .before .before .before .before .pre .4 in
+    let f : Fits (s .n) (points (now (s .x)) (now (s .y))) (now (s .ring)) (s .moves) (edgeOf (c .before .before .before .before .before .before .before .before .before .before .before .before .before .before .before .before .before .before .segment-of .result .edge)) (q .0) = subst⁻¹ (λ (g : Edge). Fits (s .n) (points (now (s .x)) (now (s .y))) (now (s .ring)) (s .moves) g (q .0)) (ap edgeOf (c .before .before .before .before .before .before .before .before .before .before .before .before .before .before .before .before .before .before .segment-of .ensures .0)) (q .2) in
+    (so-far (c .before .before .before .before .before .before .before .before .before .before .before .before .before .before .before .before) (q .0), c .before .before .before .before .before .before .before .before .before .before .before .before .before .before .before .before .loop .inv .2 (q .0) (q .1) f, may (c .before .before .before .before .before .before .before .before .before .before .before .before .before) (q .0) f t)
 
 add-i : tie.Need-add-i Inv-loop μ-loop
-add-i c = omega (arith, c .before .before .before .before .before .before .before .before .before .before .before .before .before .before .before .before .before .before .before .before .before .before .before .before .before .before .before .before .before .before .before .before .before .before .before .before .before .before .loop-test .taken, c .before .before .before .before .before .before .before .before .before .before .before .before .before .before .before .before .before .before .before .before .before .before .before .before .before .before .before .before .before .before .before .before .before .before .before .before .before .before .before .before .before .before .before .before .before .before .before .before .before .before .before .before .before .before .fits .n)
+add-i c = omega (arith, c .before .before .before .before .before .before .before .before .before .before .before .before .before .before .before .before .before .before .before .before .before .before .before .before .before .before .before .before .before .before .before .before .before .before .before .before .before .before .loop-test .taken, c .before .before .before .before .before .before .before .before .before .before .before .before .before .before .before .before .before .before .before .before .before .before .before .before .before .before .before .before .before .before .before .before .before .before .before .before .before .before .before .before .before .before .before .before .before .before .before .before .before .before .before .before .before .before .before .fits .n)
 
 loop-less : tie.Need-loop-less Inv-loop μ-loop
 loop-less c = omega (arith, c .before .before .before .before .before .before .before .before .before .before .before .before .before .before .before .before .before .before .before .before .before .before .before .before .before .before .before .before .before .before .before .before .before .before .before .before .before .before .loop-test .taken)
 
 loop-again : tie.Need-loop-again Inv-loop μ-loop
 loop-again c =
-    let a = c .before .before .before .before .before .before .before .before .before .before .before .before .before .before .before .before .before .before .before .before .before .before .before .before .before .before .before .before .before .before .before .before .before .before .before .before .before .before .before .before .before .before .before .before .before .before .before .before .before .before .before .before .before .before .args in
-    let p = c .before .before .before .before .before .before .before .before .before .before .before .before .before .before .before .before .before .before .before .before .before .before .before .before .before .before .before .before .before .before .before .before .before .before .before .before .before .before .before .before .before .before .before .before .before .before .before .before .before .before .before .before .before .before .pre in
+    let a = c .before .before .before .before .before .before .before .before .before .before .before .before .before .before .before .before .before .before .before .before .before .before .before .before .before .before .before .before .before .before .before .before .before .before .before .before .before .before .before .before .before .before .before .before .before .before .before .before .before .before .before .before .before .before .before .args in
+    let p = c .before .before .before .before .before .before .before .before .before .before .before .before .before .before .before .before .before .before .before .before .before .before .before .before .before .before .before .before .before .before .before .before .before .before .before .before .before .before .before .before .before .before .before .before .before .before .before .before .before .before .before .before .before .before .before .pre in
     let e = pair-is (c .before .before .before .before .before .before .before .before .before .before .before .before .before .before .before .before .before .before .before .before .before .before .before .before .before .before .before .before .before .before .before .before .before .before .before .before) in
     let z = c .before .before .before .before .before .before .before .before .before .before .before .before .before .before .before .before .before .before .before .before .before .before .before .before .before .before .before .before .before .before .before .before .before .before .before .before .before .before .before .loop .inv .1 in
     let d = c .before .before .before .before .before .before .before .before .before .before .before .before .before .before .before .before .before .before .before .before .before .before .push-if .kept .1 .1 .1 .1 .1 in (
@@ -105,7 +123,7 @@ loop-again c =
       },
       λ s h f.
           subst (Holds (a .n) _)
-          (next-is (a .moves) (edgeOf (a .edge)) (c .before .before .before .before .before .before .before .before .before .before .before .before .before .before .before .before .before .before .before .before .before .before .before .before .before .before .before .before .before .before .before .before .before .before .before .before .before .before .before .loop .i) s (p .1) (two (p .2)) (c .before .before .before .before .before .before .before .before .before .before .before .before .before .before .before .before .before .before .before .before .before .before .before .before .before .before .before .before .before .before .before .before .before .before .before .before .before .before .loop-test .taken) (p .3) f (e .0) (e .1) (e .2))
+          (next-is (a .moves) (edgeOf (c .before .before .before .before .before .before .before .before .before .before .before .before .before .before .before .before .before .before .before .before .before .before .before .before .before .before .before .before .before .before .before .before .before .before .before .before .before .before .before .before .before .segment-of .result .edge)) (c .before .before .before .before .before .before .before .before .before .before .before .before .before .before .before .before .before .before .before .before .before .before .before .before .before .before .before .before .before .before .before .before .before .before .before .before .before .before .before .loop .i) s (p .1) (two (p .2)) (c .before .before .before .before .before .before .before .before .before .before .before .before .before .before .before .before .before .before .before .before .before .before .before .before .before .before .before .before .before .before .before .before .before .before .before .before .before .before .loop-test .taken) (proper-a (c .before .before .before .before .before .before .before .before .before .before .before .before .before .before .before .before .before .before .before .before .before .before .before .before .before .before .before .before .before .before .before .before .before .before .before .before .before .before .before)) f (e .0) (e .1) (e .2))
           (c .before .before .before .before .before .before .before .before .before .before .before .before .before .before .before .before .before .before .before .before .before .before .push-if .ensures .0 (so-far (c .before .before .before .before .before .before .before .before .before .before .before .before .before .before .before .before .before .before .before .before .before .before .before .before .before .before .before .before .before .before .before .before .before .before .before .before .before .before .before) s) (c .before .before .before .before .before .before .before .before .before .before .before .before .before .before .before .before .before .before .before .before .before .before .before .before .before .before .before .before .before .before .before .before .before .before .before .before .before .before .before .loop .inv .2 s h f) (may (c .before .before .before .before .before .before .before .before .before .before .before .before .before .before .before .before .before .before .before .before .before .before .before .before .before .before .before .before .before .before .before .before .before .before .before .before) s f)),
       beyond-then (c .before .before .before .before .before .before .before .before .before .before .before .before .before .before .before .before .before .before .before .before .before .before .push-if .ensures .1) (c .before .before .before .before .before .before .before .before .before .before .before .before .before .before .before .before .before .before .before .before .before .before .before .before .before .before .before .before .before .before .before .before .before .before .before .before .before .before .before .loop .inv .3),
       λ l. sees-on (a .n) (now (a .ring)) (c .before .before .before .before .before .before .before .before .before .before .before .before .before .before .before .before .before .before .before .before .before .before .before .before .before .before .before .before .before .before .before .before .before .before .before .before .before .before .before .loop .i) (c .before .before .before .before .before .before .before .before .before .before .before .before .before .before .before .before .before .before .before .before .before .before .before .before .before .before .before .before .before .before .before .before .before .before .before .before .before .seen-after .ensures) l,
@@ -146,9 +164,14 @@ same-length-11 c = c .before .loop .inv .1 .reverse
 
 returns : tie.Need-returns Inv-loop μ-loop
 returns c =
-    let a = c .before .before .before .before .before .before .before .before .before .before .before .before .before .before .before .before .args in
-    let e : c .before .loop .i ≡ a .n = omega (arith, c .loop-test .left, c .before .loop .inv .0) in (
-      λ s h f. subst (Holds (a .n) _) (sweep-all (a .n) (points (now (a .x)) (now (a .y))) (a .moves) (edgeOf (a .edge)) (now (a .ring)) (c .before .loop .i) s e) (c .before .loop .inv .2 s h f),
+    let s = c .before .before .before .before .before .before .before .before .before .before .before .before .before .before .before .before .before .args in
+    let pt = points (now (s .x)) (now (s .y)) in
+    let e : c .before .loop .i ≡ s .n = omega (arith, c .loop-test .left, c .before .loop .inv .0) in
+    let z = ap edgeOf (c .before .before .before .segment-of .ensures .0) in (
+      λ u h f.
+          subst (Holds (s .n) _)
+          (sweep-all (s .n) pt (s .moves) (edgeOf (c .before .before .before .segment-of .result .edge)) (now (s .ring)) (c .before .loop .i) u e ∙ ap (λ (g : Edge). sweepOver pt (s .moves) g (edges (s .n) (now (s .ring))) u) z)
+          (c .before .loop .inv .2 u h (subst⁻¹ (λ (g : Edge). Fits (s .n) pt (now (s .ring)) (s .moves) g u) z f)),
       c .before .loop .inv .3,
     )
 
@@ -158,6 +181,7 @@ sweep-spec =
     (tie.spec
     Inv-loop
     μ-loop
+    segment-of-requires
     seen-first-requires
     loop-holds
     seen-after-requires

@@ -1,7 +1,7 @@
 -- `endpoint` meets its contract: the mark is what the test says.
 use mathlib.Core.Path.{refl, sym}
-use Rattle.sweeps.proofs.edges.endpoint.Statement.{statement}
-use Rattle.sweeps.proofs.edges.endpoint.Tie as tie
+use Rattle.sweeps.proofs.intersects.endpoint.Statement.{statement}
+use Rattle.sweeps.proofs.intersects.endpoint.Tie as tie
 
 returns : tie.Need-returns
 returns c = (refl, sym (c .if1 .taken))
