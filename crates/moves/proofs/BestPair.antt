@@ -1,6 +1,6 @@
 -- The search from kink to kink comes to the pair that the search from edge to edge finds.
 use mathlib.Core.Path.{_≡_, refl, sym, _∙_, ap}
-use mathlib.Core.Bool.{Bool, true, false, _&&_, cond}
+use mathlib.Core.Bool.{true, false, _&&_}
 use mathlib.Core.List.{List, [], _∷_, _++_, append-nil, append-assoc}
 use mathlib.Core.Logic.{_⊎_, inl, inr}
 use Prim.Native.Nat.{ℕ, suc, _+_, _≤_, _<_}
@@ -40,14 +40,11 @@ answer-is : (a : Mergable) → mergableOf (answerOf a) ≡ a
 answer-is none = refl
 answer-is (merge k p) = refl
 
-abbrev none-or-pair : Mergable → Type 0
-none-or-pair a = (a ≡ none) ⊎ ((k : ℕ) × (p : ℕ) × (a ≡ merge k p))
-
-by-answer : (a : Mergable) → none-or-pair a
+by-answer : (a : Mergable) → (a ≡ none) ⊎ ((k : ℕ) × (p : ℕ) × (a ≡ merge k p))
 by-answer none = inl refl
 by-answer (merge k p) = inr (k, p, refl)
 
--- an edge that holds a kink ends the count of edges
+-- how many edges come before the first that holds a kink: none where the first of all does, else one more than m
 abbrev counted : Mergable → ℕ → ℕ
 counted none m = m
 counted (merge k p) m = 0
@@ -95,7 +92,7 @@ module _ (n : ℕ) (pt : ℕ → Point) (r : List ℕ) where
   best-of i ks ps = record { passed = i + edges-before ks ps; found = answerOf (searchEdges n pt r ks ps) }
 
   best-none : (ps : List ℕ) → best-of 0 [] ps ≡ unfound (length ps)
-  best-none ps = λ t. record { passed = (count ps ∙ z (length ps)) t; found = answerOf (nothing ps t) }
+  best-none ps = λ t. record { passed = (let z : 0 + edges-before [] ps ≡ length ps = omega (arith, all ps) in z t); found = answerOf (nothing ps t) }
     where
       nothing : (ps : List ℕ) → searchEdges n pt r [] ps ≡ none
       nothing [] = refl
@@ -104,12 +101,6 @@ module _ (n : ℕ) (pt : ℕ → Point) (r : List ℕ) where
       all : (ps : List ℕ) → edges-before [] ps ≡ length ps
       all [] = refl
       all (p ∷ ps) = ap suc (all ps)
-
-      z : (m : ℕ) → 0 + m ≡ m
-      z m = omega arith
-
-      count : (ps : List ℕ) → 0 + edges-before [] ps ≡ 0 + length ps
-      count ps = ap (λ m. 0 + m) (all ps)
 
   -- a point that is no kink changes nothing
   first-skips : (p k : ℕ) (ks : List ℕ) → kinkAt n pt r k ≡ false → firstKink n pt r p ks ≡ firstKink n pt r p (ks ++ (k ∷ []))

@@ -1,7 +1,7 @@
--- A loop that walks along the ring: `go k i` is what a walk of k steps from position i comes to, and each turn of the loop leaves that as it was.
+-- A loop that walks along the ring: `go k i` is what the walk from position i comes to, with a count k of its steps, and each turn of the loop leaves that as it was.
 use mathlib.Core.Path.{_≡_, _∙_, ap}
 use mathlib.Core.List.{List}
-use Prim.Native.Nat.{ℕ, _-_, _<_}
+use Prim.Native.Nat.{ℕ, _<_}
 use lib.IntN.{ℤ}
 use Rattle.polygon.specs.Ring.{next}
 use Rattle.polygon.specs.Place.{position}
@@ -12,7 +12,7 @@ use Rattle.moves.specs.Runs.{RunIn}
 use Rattle.moves.specs.declared.extremes.Run.{Run}
 use Rattle.moves.proofs.RingPositions.{at-id, at-size}
 
--- the walk stands at a position, has some steps left, and will come to `end`
+-- the walk stands at a position, counts its steps, most often those left, and will come to `end`
 pub record Walk {A : Type 0} (n : ℕ) (go : ℕ → ℕ → A) (end : A) (p : Position) (left : ℕ) : Type 0 where
   pub size : p .size ≡ n
   pub below : p .id .0 < n
