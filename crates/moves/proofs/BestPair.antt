@@ -44,7 +44,7 @@ by-answer : (a : Mergable) → (a ≡ none) ⊎ ((k : ℕ) × (p : ℕ) × (a �
 by-answer none = inl refl
 by-answer (merge k p) = inr (k, p, refl)
 
--- how many edges come before the first that holds a kink: none where the first of all does, else one more than m
+-- how many edges come before one that holds a kink: none if the first of all does, else m
 abbrev counted : Mergable → ℕ → ℕ
 counted none m = m
 counted (merge k p) m = 0

@@ -19,7 +19,7 @@ use Rattle.machine.specs.Search.{heldAt, searchEdges, kinkAndEdge}
 use Rattle.machine.proofs.Corners.{has-corner, ring-apart}
 use Rattle.machine.proofs.Kinks.{never-none}
 use Rattle.moves.specs.Walk.{Both}
-use Rattle.moves.specs.Runs.{mergableOf, runFrom, runPoints, runEdges, Folded}
+use Rattle.moves.specs.Runs.{mergableOf, runFrom, pointsOf, edgesOf, runPoints, runEdges, Folded}
 use Rattle.moves.specs.Best.{unfound, pairOf, better, withKink, overKinks}
 use Rattle.moves.specs.declared.extremes.Run.{Run}
 use Rattle.moves.specs.declared.search.Best.{Best}
@@ -85,16 +85,16 @@ module _ (n : ℕ) (pt : ℕ → Point) (r : List ℕ) where
         ∙ w .same
 
   -- ---- one point more
+  edges-count : (s : Run) → length (edgesOf n s) ≡ s .edges
+  edges-count s = length-stretch n (s .from .id .0) (s .edges)
+
   pub best-stays : (ps : List ℕ) (k : ℕ) (b : Best) → kinkAt n pt r k ≡ false → b ≡ withKink n pt r ps k b
   best-stays ps k b e = rw e
 
-  pub best-of-both : (s t : Run) (k : ℕ) (b : Best) {c d : Best} → kinkAt n pt r k ≡ true → c ≡ better n pt r k 0 (stretch n (s .from .id .0) (s .edges)) b → d ≡ better n pt r k (s .edges) (stretch n (t .from .id .0) (t .edges)) c →
-      d ≡ withKink n pt r (runEdges n s t) k b
+  pub best-of-both : (s t : Run) (k : ℕ) (b : Best) {c d : Best} → kinkAt n pt r k ≡ true → c ≡ better n pt r k 0 (edgesOf n s) b → d ≡ better n pt r k (s .edges) (edgesOf n t) c → d ≡ withKink n pt r (runEdges n s t) k b
   best-of-both s t k b e f g =
-      let first = stretch n (s .from .id .0) (s .edges) in
-      let second = stretch n (t .from .id .0) (t .edges) in
-      let z : s .edges ≡ 0 + length first = omega (arith, length-stretch n (s .from .id .0) (s .edges)) in
-      g ∙ (λ j. better n pt r k (z j) second (f j)) ∙ sym (better-append n pt r k 0 first second b) ∙ rw e
+      let z : s .edges ≡ 0 + length (edgesOf n s) = omega (arith, edges-count s) in
+      g ∙ (λ j. better n pt r k (z j) (edgesOf n t) (f j)) ∙ sym (better-append n pt r k 0 (edgesOf n s) (edgesOf n t) b) ∙ rw e
 
   -- ---- over the points of a run
   module _ (s t : Run) {b : Best} {end : Best} {q : Position} {left : ℕ} (w : Walk n (λ m i. overKinks n pt r (runEdges n s t) (stretch n i m) b) end q left) where
@@ -109,36 +109,26 @@ module _ (n : ℕ) (pt : ℕ → Point) (r : List ℕ) where
     kinks-end h = sym (ap (λ m. overKinks n pt r (runEdges n s t) (stretch n (q .id .0) m) b) (let z : left ≡ 0 = omega arith in z)) ∙ w .same
 
   -- ---- all points of one run or of two
-  pub one-run : (s : Run) {b : Best} → b ≡ overKinks n pt r (runEdges n s (record { from = s .from; edges = 0 })) (stretch n (s .from .id .0) (suc (s .edges))) (unfound (s .edges)) →
-      mergableOf (b .found) ≡ searchEdges n pt r (stretch n (s .from .id .0) (suc (s .edges))) (stretch n (s .from .id .0) (s .edges))
+  pub one-run : (s : Run) {b : Best} → b ≡ overKinks n pt r (runEdges n s (record { from = s .from; edges = 0 })) (pointsOf n s) (unfound (s .edges)) → mergableOf (b .found) ≡ searchEdges n pt r (pointsOf n s) (edgesOf n s)
   one-run s e =
-      let ks = stretch n (s .from .id .0) (suc (s .edges)) in
-      let ps = stretch n (s .from .id .0) (s .edges) in
-      best-found n pt r ks (ps ++ []) (sym (ap length (append-nil ps) ∙ length-stretch n (s .from .id .0) (s .edges))) e
-      ∙ ap (searchEdges n pt r ks) (append-nil ps)
+      best-found n pt r (pointsOf n s) (edgesOf n s ++ []) (sym (ap length (append-nil (edgesOf n s)) ∙ edges-count s)) e
+      ∙ ap (searchEdges n pt r (pointsOf n s)) (append-nil (edgesOf n s))
 
-  pub two-runs : (s t : Run) {b c : Best} → b ≡ overKinks n pt r (runEdges n s t) (stretch n (s .from .id .0) (suc (s .edges))) (unfound (s .edges + t .edges)) →
-      c ≡ overKinks n pt r (runEdges n s t) (stretch n (t .from .id .0) (suc (t .edges))) b → mergableOf (c .found) ≡ searchEdges n pt r (runPoints n s t) (runEdges n s t)
+  pub two-runs : (s t : Run) {b c : Best} → b ≡ overKinks n pt r (runEdges n s t) (pointsOf n s) (unfound (s .edges + t .edges)) → c ≡ overKinks n pt r (runEdges n s t) (pointsOf n t) b →
+      mergableOf (c .found) ≡ searchEdges n pt r (runPoints n s t) (runEdges n s t)
   two-runs s t e f =
-      let first = stretch n (s .from .id .0) (s .edges) in
-      let second = stretch n (t .from .id .0) (t .edges) in
-      let ks = stretch n (s .from .id .0) (suc (s .edges)) in
-      let ls = stretch n (t .from .id .0) (suc (t .edges)) in
-      best-found n pt r (ks ++ ls) (first ++ second)
-      (sym (length-append first second ∙ (λ j. length-stretch n (s .from .id .0) (s .edges) j + length-stretch n (t .from .id .0) (t .edges) j)))
-      (f ∙ ap (overKinks n pt r (first ++ second) ls) e ∙ sym (kinks-append n pt r (first ++ second) ks ls (unfound (s .edges + t .edges))))
+      best-found n pt r (runPoints n s t) (runEdges n s t) (sym (length-append (edgesOf n s) (edgesOf n t) ∙ (λ j. edges-count s j + edges-count t j)))
+      (f ∙ ap (overKinks n pt r (runEdges n s t) (pointsOf n t)) e ∙ sym (kinks-append n pt r (runEdges n s t) (pointsOf n s) (pointsOf n t) (unfound (s .edges + t .edges))))
 
   -- ---- where both runs are one
   pub same-runs : (s t : Run) {a : Bool} → a ≡ (eqb (s .from .id .0) (t .from .id .0) && eqb (s .edges) (t .edges)) → a ≡ true →
-      searchEdges n pt r (stretch n (s .from .id .0) (suc (s .edges))) (stretch n (s .from .id .0) (s .edges)) ≡ searchEdges n pt r (runPoints n s t) (runEdges n s t)
+      searchEdges n pt r (pointsOf n s) (edgesOf n s) ≡ searchEdges n pt r (runPoints n s t) (runEdges n s t)
   same-runs s t e f =
-      let ks = stretch n (s .from .id .0) (suc (s .edges)) in
-      let ps = stretch n (s .from .id .0) (s .edges) in
       let starts = eqb (s .from .id .0) (t .from .id .0) in
       let counts = eqb (s .edges) (t .edges) in
       let p : s .from .id .0 ≡ t .from .id .0 = eqb-true (s .from .id .0) (t .from .id .0) (and-left starts counts (sym e ∙ f)) in
       let q : s .edges ≡ t .edges = eqb-true (s .edges) (t .edges) (and-right starts counts (sym e ∙ f)) in
-      search-twice n pt r ks ps ∙ (λ j. searchEdges n pt r (ks ++ stretch n (p j) (suc (q j))) (ps ++ stretch n (p j) (q j)))
+      search-twice n pt r (pointsOf n s) (edgesOf n s) ∙ (λ j. searchEdges n pt r (pointsOf n s ++ stretch n (p j) (suc (q j))) (edgesOf n s ++ stretch n (p j) (q j)))
 
 -- ---- both runs are those of the edges at i and j
 pub both-runs : (n : ℕ) (pt : ℕ → Point) (r : List ℕ) (i j : ℕ) {a b : Run} → a ≡ runFrom n pt r i → b ≡ runFrom n pt r j →

@@ -1,18 +1,18 @@
 // The search of a hoist (two_opt.rs, in `untangle`): of the edges of two runs, in order, the first that holds a kink of them, and the first such kink.
 //
-// The original goes from edge to edge and asks each for the kinks. On a row of points the kinks are few, so here the search goes from kink to kink, and
-// looks for each only at the edges before the best one so far.
+// The original goes from edge to edge, and for each over all the points. Here each point is asked once whether it is a kink, and is then looked for
+// only among the edges that come before the best one so far: an edge that comes later can be no answer.
 ghost use mathlib.Core.Path.{_≡_};
 ghost use mathlib.Core.Bool.{_&&_};
-ghost use Prim.Native.Nat.{suc, min, _<_};
+ghost use Prim.Native.Nat.{min, _<_};
 ghost use lib.Dec.{eqb};
 ghost use Rattle.geometry.specs.Plane.{ltP};
 ghost use Rattle.geometry.specs.Lent.{points};
-ghost use Rattle.polygon.specs.Ring.{next, stretch};
+ghost use Rattle.polygon.specs.Ring.{next};
 ghost use Rattle.machine.specs.Board.{ptAt};
 ghost use Rattle.machine.specs.Search.{heldAt, searchEdges, kinkAndEdge};
 ghost use Rattle.moves.specs.Walk.{RingOver, Both};
-ghost use Rattle.moves.specs.Runs.{RunIn, mergableOf, runPoints, runEdges};
+ghost use Rattle.moves.specs.Runs.{RunIn, mergableOf, pointsOf, edgesOf, runPoints, runEdges};
 ghost use Rattle.moves.specs.Best.{better, withKink, overKinks};
 use super::extremes::Run;
 use super::extremes::linear_extremes;
@@ -35,6 +35,7 @@ pub struct Best {
     pub found: Mergable,
 }
 
+// The lesser of two counts of edges.
 fn lesser_count(a: u16, b: u16) -> u16
     ensures { λ r. ⌜ r ≡ min a b ⌝ }
 {
@@ -79,7 +80,7 @@ fn better_on_run(
     best: Best,
 ) -> Best
     requires { ⌜ RingOver (kink .size) (now x) (now y) (now ring) × (kink .id .0 < kink .size) × RunIn (kink .size) run × (before < kink .size) ⌝ }
-    ensures { λ r. ⌜ r ≡ better (kink .size) (points (now (x .entry)) (now (y .entry))) (now (ring .entry)) (kink .id .0) before (stretch (kink .size) (run .from .id .0) (run .edges)) best ⌝ }
+    ensures { λ r. ⌜ r ≡ better (kink .size) (points (now (x .entry)) (now (y .entry))) (now (ring .entry)) (kink .id .0) before (edgesOf (kink .size) run) best ⌝ }
 {
     let after = before + run.edges;
     let end = lesser_count(best.passed, after);
@@ -117,7 +118,7 @@ fn with_kink(x: &[i32], y: &[i32], ring: &[u16], kink: Position, a: Run, b: Run,
 // The best pair with all points of a run, its end included.
 fn with_run(x: &[i32], y: &[i32], ring: &[u16], run: Run, a: Run, b: Run, start: Best) -> Best
     requires { ⌜ RingOver (run .from .size) (now x) (now y) (now ring) × RunIn (run .from .size) run × RunIn (run .from .size) a × RunIn (run .from .size) b ⌝ }
-    ensures { λ r. ⌜ r ≡ overKinks (run .from .size) (points (now (x .entry)) (now (y .entry))) (now (ring .entry)) (runEdges (run .from .size) a b) (stretch (run .from .size) (run .from .id .0) (suc (run .edges))) start ⌝ }
+    ensures { λ r. ⌜ r ≡ overKinks (run .from .size) (points (now (x .entry)) (now (y .entry))) (now (ring .entry)) (runEdges (run .from .size) a b) (pointsOf (run .from .size) run) start ⌝ }
 {
     let mut best = start;
     let mut at = run.from;
@@ -133,7 +134,7 @@ fn with_run(x: &[i32], y: &[i32], ring: &[u16], run: Run, a: Run, b: Run, start:
 // The search of one run.
 fn search_run(x: &[i32], y: &[i32], ring: &[u16], run: Run) -> Mergable
     requires { ⌜ RingOver (run .from .size) (now x) (now y) (now ring) × RunIn (run .from .size) run ⌝ }
-    ensures { λ r. ⌜ mergableOf r ≡ searchEdges (run .from .size) (points (now (x .entry)) (now (y .entry))) (now (ring .entry)) (stretch (run .from .size) (run .from .id .0) (suc (run .edges))) (stretch (run .from .size) (run .from .id .0) (run .edges)) ⌝ }
+    ensures { λ r. ⌜ mergableOf r ≡ searchEdges (run .from .size) (points (now (x .entry)) (now (y .entry))) (now (ring .entry)) (pointsOf (run .from .size) run) (edgesOf (run .from .size) run) ⌝ }
 {
     let from = run.from;
     let no_edges = Run { from, edges: 0 };
@@ -159,6 +160,7 @@ fn search_runs(x: &[i32], y: &[i32], ring: &[u16], a: Run, b: Run) -> Mergable
     of_b.found
 }
 
+// Runs of one ring with the same start and as many edges are one run.
 fn is_same_run(a: Run, b: Run) -> bool
     ensures { λ r. ⌜ r ≡ (eqb (a .from .id .0) (b .from .id .0) && eqb (a .edges) (b .edges)) ⌝ }
 {

@@ -1,11 +1,9 @@
 -- `search_runs` meets its contract: the points of the second run come after those of the first.
 use mathlib.Core.Path.{_≡_, subst}
-use Prim.Native.Nat.{suc}
 use denote.Ref.{now}
 use borrow.Author.Needs.{needs}
 use Rattle.geometry.specs.Lent.{points}
-use Rattle.polygon.specs.Ring.{stretch}
-use Rattle.moves.specs.Runs.{runEdges}
+use Rattle.moves.specs.Runs.{pointsOf, runEdges}
 use Rattle.moves.specs.Best.{overKinks}
 use Rattle.moves.proofs.RunSteps.{run-beside}
 use Rattle.moves.proofs.KinkSearch.{two-runs}
@@ -26,7 +24,7 @@ returns c =
     let s = c .before .before .before .before .before .args in
     let pt = points (now (s .x)) (now (s .y)) in
     two-runs (s .a .from .size) pt (now (s .ring)) (s .a) (s .b) (c .before .with-run .ensures)
-    (subst (λ m. c .with-run2 .result ≡ overKinks m pt (now (s .ring)) (runEdges m (s .a) (s .b)) (stretch m (s .b .from .id .0) (suc (s .b .edges))) (c .before .with-run .result)) (c .before .before .before .before .before .pre .2 .size) (c .with-run2 .ensures))
+    (subst (λ m. c .with-run2 .result ≡ overKinks m pt (now (s .ring)) (runEdges m (s .a) (s .b)) (pointsOf m (s .b)) (c .before .with-run .result)) (c .before .before .before .before .before .pre .2 .size) (c .with-run2 .ensures))
 
 pub search-runs-spec : {M : Type 1} → statement M
 search-runs-spec = tie.close (tie.spec add-t9 with-run-requires with-run-requires-2 returns)
