@@ -1,104 +1,134 @@
--- The search for a kink and an edge that holds it, step by step: along a stretch of the ring, over two runs, and its end.
+-- The search for a kink and an edge that holds it, step by step: along the edges of a run, over the points of two runs, and its end.
 use mathlib.Core.Path.{_≡_, refl, sym, _∙_, ap}
-use mathlib.Core.Bool.{true, false}
-use mathlib.Core.List.{List, [], _∷_, _++_}
-use Prim.Native.Nat.{ℕ, zero, suc, _+_, _-_, _≤_, _<_}
+use mathlib.Core.Bool.{Bool, true, false, _&&_, Bool·beq}
+use mathlib.Core.List.{List, [], _∷_, _++_, append-nil}
+use Prim.Native.Nat.{ℕ, zero, suc, min, _+_, _-_, _≤_, _<_}
 use native.Mathlib.Omega.{arith}
-use native.Mathlib.Numerals.{add-one}
-use Rattle.algebra.specs.Cases.{both, true-or-false}
-use Rattle.geometry.specs.Plane.{Point}
+use lib.Dec.{eqb}
+use lib.ListN.{length, length-append}
+use borrow.Author.Tests.{eqb-true}
+use Rattle.algebra.specs.Cases.{both, true-or-false, le-cases, and-left, and-right}
+use Rattle.geometry.specs.Plane.{Point, ltP}
+use Rattle.geometry.proofs.Points.{inside-is, ltP-not}
 use Rattle.polygon.specs.Ring.{next, stretch, IsRing}
 use Rattle.polygon.specs.Place.{position}
 use Rattle.polygon.specs.declared.position.Position.{Position}
-use Rattle.polygon.specs.declared.position.PositionId.{PositionId}
 use Rattle.polygon.proofs.Positions.{next-lt}
-use Rattle.machine.specs.Board.{Board}
-use Rattle.machine.specs.Search.{Mergable, none, merge, orElse, kinkIn, firstKink, searchEdges, kinkAndEdge}
+use Rattle.machine.specs.Board.{Board, ptAt, kinkAt}
+use Rattle.machine.specs.Search.{heldAt, searchEdges, kinkAndEdge}
 use Rattle.machine.proofs.Corners.{has-corner, ring-apart}
 use Rattle.machine.proofs.Kinks.{never-none}
 use Rattle.moves.specs.Walk.{Both}
-use Rattle.moves.specs.Runs.{mergableOf, runFrom, runPoints, runEdges, Folded}
+use Rattle.moves.specs.Runs.{mergableOf, runFrom, pointsOf, edgesOf, runPoints, runEdges, Folded}
+use Rattle.moves.specs.Best.{unfound, pairOf, better, withKink, overKinks}
 use Rattle.moves.specs.declared.extremes.Run.{Run}
+use Rattle.moves.specs.declared.search.Best.{Best}
 use Rattle.moves.specs.declared.search.Mergable.{Mergable as Answer}
-use Rattle.moves.specs.declared.search.Mergable.the-variants.{Found, Nothing}
+use Rattle.moves.specs.declared.search.Mergable.the-variants.{Nothing}
 use Rattle.moves.proofs.RingWalk.{Walk, walk-sized, walk-steps}
+use Rattle.moves.proofs.BestPair.{kinks-append, better-late, better-here, better-on, better-append, best-found, search-twice}
 
-orElse-assoc : (a b c : Mergable) → orElse a (orElse b c) ≡ orElse (orElse a b) c
-orElse-assoc none b c = refl
-orElse-assoc (merge k p) b c = refl
+length-stretch : (n i k : ℕ) → length (stretch n i k) ≡ k
+length-stretch n i zero = refl
+length-stretch n i (suc k) = ap suc (length-stretch n (next n i) k)
 
--- ---- an answer of the code, and what is searched after it
-found-first : {m : Answer} {k p : PositionId} {h : Mergable} (g : Mergable) → m ≡ Found k p → mergableOf m ≡ h → merge (k .0) (p .0) ≡ orElse h g
-found-first g e f = sym (ap (λ h. orElse h g) (sym f ∙ ap mergableOf e))
+pub below-least : {e a b i : ℕ} → e ≡ min a b → i < e → (i < a) × (i < b)
+below-least f h = (omega arith, omega arith)
 
-none-first : {m : Answer} {h : Mergable} (g : Mergable) → m ≡ Nothing → mergableOf m ≡ h → g ≡ orElse h g
-none-first g e f = sym (ap (λ h. orElse h g) (sym f ∙ ap mergableOf e))
-
-stretch-more : (n i k : ℕ) → 0 < k → stretch n i k ≡ i ∷ stretch n (next n i) (k - 1)
-stretch-more n i zero h = absurd (omega arith)
-stretch-more n i (suc k) h = ap (λ m. i ∷ stretch n (next n i) m) (let z : k ≡ suc k - 1 = omega arith in z)
+-- ---- of the ends of an edge that holds a point exactly one is below it
+same-side : (s t : Bool) → Bool·beq s t ≡ true → s ≡ t
+same-side true true e = refl
+same-side true false e = sym e
+same-side false true e = e
+same-side false false e = refl
 
 module _ (n : ℕ) (pt : ℕ → Point) (r : List ℕ) where
-  first-append : (p : ℕ) (l m : List ℕ) → firstKink n pt r p (l ++ m) ≡ orElse (firstKink n pt r p l) (firstKink n pt r p m)
-  first-append p [] m = refl
-  first-append p (k ∷ l) m = both (true-or-false (kinkIn n pt r k p)) (λ t. rw t) (λ t. rw t (first-append p l m))
+  pub one-side : (k p : ℕ) {s t : Bool} → s ≡ ltP (ptAt pt r p) (ptAt pt r k) → t ≡ ltP (ptAt pt r (next n p)) (ptAt pt r k) → Bool·beq s t ≡ true → false ≡ heldAt n pt r k p
+  one-side k p {s} {t} e f d =
+      let g = same-side s t d in
+      let a = ptAt pt r p in
+      let b = ptAt pt r (next n p) in
+      let v = ptAt pt r k in
+      both (true-or-false (heldAt n pt r k p))
+      (λ h. both (inside-is a b v h .1)
+      (λ i. absurd (ltP-not b v (sym f ∙ sym g ∙ e ∙ i .0) (i .1)))
+      (λ i. absurd (ltP-not a v (sym e ∙ g ∙ f ∙ i .0) (i .1))))
+      (λ h. sym h)
 
-  search-append : (ks l m : List ℕ) → searchEdges n pt r ks (l ++ m) ≡ orElse (searchEdges n pt r ks l) (searchEdges n pt r ks m)
-  search-append ks [] m = refl
-  search-append ks (p ∷ l) m = ap (orElse (firstKink n pt r p ks)) (search-append ks l m) ∙ orElse-assoc (firstKink n pt r p ks) (searchEdges n pt r ks l) (searchEdges n pt r ks m)
+  -- ---- along the edges of a run, before whose end there are `after` edges
+  abbrev pub looking : ℕ → Best → ℕ → ℕ → ℕ → Best
+  looking k b after i p = better n pt r k i (stretch n p (after - i)) b
 
-  -- ---- the first kink along a stretch that the edge at p holds
-  module _ (p : ℕ) {end : Mergable} {q : Position} {left : ℕ} (w : Walk n (λ k i. firstKink n pt r p (stretch n i k)) end q left) where
-    pub kink-here : 0 < left → kinkIn n pt r (q .id .0) p ≡ true → merge (q .id .0) p ≡ end
-    kink-here h e = (rw (stretch-more n (q .id .0) left h) (rw e)) ∙ w .same
+  pub whole-run : (k : ℕ) (b : Best) (before edges p : ℕ) → looking k b (before + edges) before p ≡ better n pt r k before (stretch n p edges) b
+  whole-run k b before edges p = ap (λ m. better n pt r k before (stretch n p m) b) (let z : before + edges - before ≡ edges = omega arith in z)
 
-    pub kink-goes : 0 < left → kinkIn n pt r (q .id .0) p ≡ false → {q' : Position} → q' ≡ position (q .size) (next (q .size) (q .id .0)) →
-        Walk n (λ k i. firstKink n pt r p (stretch n i k)) end q' (left - 1)
-    kink-goes h e f = walk-steps w next f (next-lt n (q .id .0) (w .below)) (rw (stretch-more n (q .id .0) left h) (rw e))
+  module _ (k : ℕ) (b : Best) (after : ℕ) {end : Best} {q : Position} {i : ℕ} (w : Walk n (looking k b after) end q i) where
+    edges-on : i < after → stretch n (q .id .0) (after - i) ≡ q .id .0 ∷ stretch n (next n (q .id .0)) (after - (i + 1))
+    edges-on h = ap (stretch n (q .id .0)) (let z : after - i ≡ suc (after - (i + 1)) = omega arith in z)
 
-    pub kink-ends : left ≤ 0 → none ≡ end
-    kink-ends h = sym (ap (λ k. firstKink n pt r p (stretch n (q .id .0) k)) (let z : left ≡ 0 = omega arith in z)) ∙ w .same
+    pub pair-here : i < b .passed → i < after → heldAt n pt r k (q .id .0) ≡ true → pairOf k i (q .id .0) ≡ end
+    pair-here l h e =
+        sym (better-here n pt r k i (q .id .0) (stretch n (next n (q .id .0)) (after - (i + 1))) b l e)
+        ∙ ap (λ ps. better n pt r k i ps b) (sym (edges-on h)) ∙ w .same
 
-  -- ---- the first edge along a stretch that holds a kink of both runs
-  module _ (a b : Run) {end : Mergable} {q : Position} {left : ℕ} (w : Walk n (λ k i. searchEdges n pt r (runPoints n a b) (stretch n i k)) end q left) where
-    edges-more : 0 < left → orElse (firstKink n pt r (q .id .0) (runPoints n a b)) (searchEdges n pt r (runPoints n a b) (stretch n (next n (q .id .0)) (left - 1))) ≡ searchEdges n pt r (runPoints n a b) (stretch n (q .id .0) left)
-    edges-more h = sym (ap (searchEdges n pt r (runPoints n a b)) (stretch-more n (q .id .0) left h))
+    pub pair-goes : i < after → heldAt n pt r k (q .id .0) ≡ false → {q' : Position} → q' ≡ position (q .size) (next (q .size) (q .id .0)) → Walk n (looking k b after) end q' (i + 1)
+    pair-goes h e f =
+        walk-steps w next f (next-lt n (q .id .0) (w .below))
+        (ap (λ j. better n pt r k j (stretch n (next n (q .id .0)) (after - (i + 1))) b) (let z : i + 1 ≡ suc i = omega arith in z)
+        ∙ sym (ap (λ ps. better n pt r k i ps b) (edges-on h) ∙ better-on n pt r k i (q .id .0) (stretch n (next n (q .id .0)) (after - (i + 1))) b e))
 
-    asked : (m : Answer) → mergableOf m ≡ firstKink (q .size) pt r (q .id .0) (runPoints (q .size) a b) → mergableOf m ≡ firstKink n pt r (q .id .0) (runPoints n a b)
-    asked m f = walk-sized w (λ s. mergableOf m ≡ firstKink s pt r (q .id .0) (runPoints s a b)) f
+    pub pair-ends : {e : ℕ} → e ≡ min (b .passed) after → e ≤ i → b ≡ end
+    pair-ends {e} f l =
+        both (le-cases (b .passed) i)
+        (λ h. sym (better-late n pt r k i (stretch n (q .id .0) (after - i)) b (h .0)))
+        (λ h. sym (ap (λ m. better n pt r k i (stretch n (q .id .0) m) b) (let z : after - i ≡ 0 = omega arith in z)))
+        ∙ w .same
 
-    pub edge-here : {m : Answer} {k p : PositionId} → 0 < left → m ≡ Found k p → mergableOf m ≡ firstKink (q .size) pt r (q .id .0) (runPoints (q .size) a b) → merge (k .0) (p .0) ≡ end
-    edge-here {m} h e f = found-first (searchEdges n pt r (runPoints n a b) (stretch n (next n (q .id .0)) (left - 1))) e (asked m f) ∙ edges-more h ∙ w .same
+  -- ---- one point more
+  edges-count : (s : Run) → length (edgesOf n s) ≡ s .edges
+  edges-count s = length-stretch n (s .from .id .0) (s .edges)
 
-    pub edge-goes : {m : Answer} → 0 < left → m ≡ Nothing → mergableOf m ≡ firstKink (q .size) pt r (q .id .0) (runPoints (q .size) a b) → {q' : Position} → q' ≡ position (q .size) (next (q .size) (q .id .0)) →
-        Walk n (λ k i. searchEdges n pt r (runPoints n a b) (stretch n i k)) end q' (left - 1)
-    edge-goes {m} h e f g =
-        walk-steps w next g (next-lt n (q .id .0) (w .below)) (none-first (searchEdges n pt r (runPoints n a b) (stretch n (next n (q .id .0)) (left - 1))) e (asked m f) ∙ edges-more h)
+  pub best-stays : (ps : List ℕ) (k : ℕ) (b : Best) → kinkAt n pt r k ≡ false → b ≡ withKink n pt r ps k b
+  best-stays ps k b e = rw e
 
-  pub edges-end : (ks : List ℕ) {end : Mergable} {q : Position} {left : ℕ} → Walk n (λ k i. searchEdges n pt r ks (stretch n i k)) end q left → left ≤ 0 → none ≡ end
-  edges-end ks {q = q} {left = left} w h = sym (ap (λ k. searchEdges n pt r ks (stretch n (q .id .0) k)) (let z : left ≡ 0 = omega arith in z)) ∙ w .same
+  pub best-of-both : (s t : Run) (k : ℕ) (b : Best) {c d : Best} → kinkAt n pt r k ≡ true → c ≡ better n pt r k 0 (edgesOf n s) b → d ≡ better n pt r k (s .edges) (edgesOf n t) c → d ≡ withKink n pt r (runEdges n s t) k b
+  best-of-both s t k b e f g =
+      let z : s .edges ≡ 0 + length (edgesOf n s) = omega (arith, edges-count s) in
+      g ∙ (λ j. better n pt r k (z j) (edgesOf n t) (f j)) ∙ sym (better-append n pt r k 0 (edgesOf n s) (edgesOf n t) b) ∙ rw e
 
-  -- ---- over the points of both runs
-  abbrev points-of : Run → List ℕ
-  points-of s = stretch n (s .from .id .0) (suc (s .edges))
+  -- ---- over the points of a run
+  module _ (s t : Run) {b : Best} {end : Best} {q : Position} {left : ℕ} (w : Walk n (λ m i. overKinks n pt r (runEdges n s t) (stretch n i m) b) end q left) where
+    pub kink-goes : 0 < left → {b' : Best} → b' ≡ withKink (q .size) pt r (runEdges (q .size) s t) (q .id .0) b → {q' : Position} → q' ≡ position (q .size) (next (q .size) (q .id .0)) →
+        Walk n (λ m i. overKinks n pt r (runEdges n s t) (stretch n i m) b') end q' (left - 1)
+    kink-goes h {b'} e f =
+        walk-steps w next f (next-lt n (q .id .0) (w .below))
+        (ap (overKinks n pt r (runEdges n s t) (stretch n (next n (q .id .0)) (left - 1))) (walk-sized w (λ m. b' ≡ withKink m pt r (runEdges m s t) (q .id .0) b) e)
+        ∙ sym (ap (λ m. overKinks n pt r (runEdges n s t) (stretch n (q .id .0) m) b) (let z : left ≡ suc (left - 1) = omega arith in z)))
 
-  one-more : (p : ℕ) (s : Run) → firstKink n pt r p (stretch n (s .from .id .0) (s .edges + 1)) ≡ firstKink n pt r p (points-of s)
-  one-more p s = ap (λ k. firstKink n pt r p (stretch n (s .from .id .0) k)) (add-one (s .edges))
+    pub kinks-end : left ≤ 0 → b ≡ end
+    kinks-end h = sym (ap (λ m. overKinks n pt r (runEdges n s t) (stretch n (q .id .0) m) b) (let z : left ≡ 0 = omega arith in z)) ∙ w .same
 
-  module _ (p : ℕ) (a b : Run) {m : Answer} (f : mergableOf m ≡ firstKink n pt r p (stretch n (a .from .id .0) (a .edges + 1))) where
-    pub points-found : {k q : PositionId} → m ≡ Found k q → merge (k .0) (q .0) ≡ firstKink n pt r p (runPoints n a b)
-    points-found e = found-first (firstKink n pt r p (points-of b)) e (f ∙ one-more p a) ∙ sym (first-append p (points-of a) (points-of b))
+  -- ---- all points of one run or of two
+  pub one-run : (s : Run) {b : Best} → b ≡ overKinks n pt r (runEdges n s (record { from = s .from; edges = 0 })) (pointsOf n s) (unfound (s .edges)) → mergableOf (b .found) ≡ searchEdges n pt r (pointsOf n s) (edgesOf n s)
+  one-run s e =
+      best-found n pt r (pointsOf n s) (edgesOf n s ++ []) (sym (ap length (append-nil (edgesOf n s)) ∙ edges-count s)) e
+      ∙ ap (searchEdges n pt r (pointsOf n s)) (append-nil (edgesOf n s))
 
-    pub points-next : {h : Mergable} → m ≡ Nothing → h ≡ firstKink n pt r p (stretch n (b .from .id .0) (b .edges + 1)) → h ≡ firstKink n pt r p (runPoints n a b)
-    points-next e g = g ∙ one-more p b ∙ none-first (firstKink n pt r p (points-of b)) e (f ∙ one-more p a) ∙ sym (first-append p (points-of a) (points-of b))
+  pub two-runs : (s t : Run) {b c : Best} → b ≡ overKinks n pt r (runEdges n s t) (pointsOf n s) (unfound (s .edges + t .edges)) → c ≡ overKinks n pt r (runEdges n s t) (pointsOf n t) b →
+      mergableOf (c .found) ≡ searchEdges n pt r (runPoints n s t) (runEdges n s t)
+  two-runs s t e f =
+      best-found n pt r (runPoints n s t) (runEdges n s t) (sym (length-append (edgesOf n s) (edgesOf n t) ∙ (λ j. edges-count s j + edges-count t j)))
+      (f ∙ ap (overKinks n pt r (runEdges n s t) (pointsOf n t)) e ∙ sym (kinks-append n pt r (runEdges n s t) (pointsOf n s) (pointsOf n t) (unfound (s .edges + t .edges))))
 
-  -- ---- over the edges of two stretches
-  module _ (ks l l' : List ℕ) {m : Answer} (f : mergableOf m ≡ searchEdges n pt r ks l) where
-    pub edges-found : {k q : PositionId} → m ≡ Found k q → merge (k .0) (q .0) ≡ searchEdges n pt r ks (l ++ l')
-    edges-found e = found-first (searchEdges n pt r ks l') e f ∙ sym (search-append ks l l')
-
-    pub edges-next : {h : Mergable} → m ≡ Nothing → h ≡ searchEdges n pt r ks l' → h ≡ searchEdges n pt r ks (l ++ l')
-    edges-next e g = g ∙ none-first (searchEdges n pt r ks l') e f ∙ sym (search-append ks l l')
+  -- ---- where both runs are one
+  pub same-runs : (s t : Run) {a : Bool} → a ≡ (eqb (s .from .id .0) (t .from .id .0) && eqb (s .edges) (t .edges)) → a ≡ true →
+      searchEdges n pt r (pointsOf n s) (edgesOf n s) ≡ searchEdges n pt r (runPoints n s t) (runEdges n s t)
+  same-runs s t e f =
+      let starts = eqb (s .from .id .0) (t .from .id .0) in
+      let counts = eqb (s .edges) (t .edges) in
+      let p : s .from .id .0 ≡ t .from .id .0 = eqb-true (s .from .id .0) (t .from .id .0) (and-left starts counts (sym e ∙ f)) in
+      let q : s .edges ≡ t .edges = eqb-true (s .edges) (t .edges) (and-right starts counts (sym e ∙ f)) in
+      search-twice n pt r (pointsOf n s) (edgesOf n s) ∙ (λ j. searchEdges n pt r (pointsOf n s ++ stretch n (p j) (suc (q j))) (edgesOf n s ++ stretch n (p j) (q j)))
 
 -- ---- both runs are those of the edges at i and j
 pub both-runs : (n : ℕ) (pt : ℕ → Point) (r : List ℕ) (i j : ℕ) {a b : Run} → a ≡ runFrom n pt r i → b ≡ runFrom n pt r j →

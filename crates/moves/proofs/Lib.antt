@@ -2,5 +2,6 @@ pub mod RingPositions
 pub mod Least
 pub mod RingWalk
 pub mod RunSteps
+pub mod BestPair
 pub mod KinkSearch
 pub mod PlanParts

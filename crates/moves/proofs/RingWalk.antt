@@ -1,16 +1,18 @@
--- A loop that walks along the ring: `go k i` is what a walk of k steps from position i comes to, and each turn of the loop leaves that as it was.
+-- A loop that walks along the ring: `go k i` is what the walk from position i comes to, with a count k of its steps, and each turn of the loop leaves that as it was.
 use mathlib.Core.Path.{_≡_, _∙_, ap}
 use mathlib.Core.List.{List}
-use Prim.Native.Nat.{ℕ, _-_, _<_}
+use Prim.Native.Nat.{ℕ, _<_}
 use lib.IntN.{ℤ}
+use Rattle.polygon.specs.Ring.{next}
 use Rattle.polygon.specs.Place.{position}
 use Rattle.polygon.specs.declared.position.Position.{Position}
+use Rattle.polygon.proofs.Positions.{next-lt}
 use Rattle.moves.specs.Walk.{RingOver, Both}
 use Rattle.moves.specs.Runs.{RunIn}
 use Rattle.moves.specs.declared.extremes.Run.{Run}
 use Rattle.moves.proofs.RingPositions.{at-id, at-size}
 
--- the walk stands at a position, has some steps left, and will come to `end`
+-- the walk stands at a position, counts its steps, most often those left, and will come to `end`
 pub record Walk {A : Type 0} (n : ℕ) (go : ℕ → ℕ → A) (end : A) (p : Position) (left : ℕ) : Type 0 where
   pub size : p .size ≡ n
   pub below : p .id .0 < n
@@ -31,13 +33,20 @@ module _ {A : Type 0} {n : ℕ} {go : ℕ → ℕ → A} {end : A} {p : Position
   pub walk-sized : (P : ℕ → Type 0) → P (p .size) → P n
   walk-sized P h = rw (w .size) at h
 
-  -- one step
-  pub walk-steps : (step : ℕ → ℕ → ℕ) {q : Position} → q ≡ position (p .size) (step (p .size) (p .id .0)) → step n (p .id .0) < n →
-      go (left - 1) (step n (p .id .0)) ≡ go left (p .id .0) → Walk n go end q (left - 1)
-  walk-steps step {q} e l h =
+  -- one step, after which the rest of the walk comes to the same
+  pub walk-steps : (step : ℕ → ℕ → ℕ) {rest : ℕ → ℕ → A} {k : ℕ} {q : Position} → q ≡ position (p .size) (step (p .size) (p .id .0)) → step n (p .id .0) < n →
+      rest k (step n (p .id .0)) ≡ go left (p .id .0) → Walk n rest end q k
+  walk-steps step {rest} {k} {q} e l h =
       let f : q ≡ position n (step n (p .id .0)) = e ∙ ap (λ m. position m (step m (p .id .0))) (w .size) in
-      record { size = at-size f; below = rw (at-id f) l; same = ap (go (left - 1)) (at-id f) ∙ h ∙ w .same }
+      record { size = at-size f; below = rw (at-id f) l; same = ap (rest k) (at-id f) ∙ h ∙ w .same }
 
 -- beside a second position of the ring
 pub walk-beside : {A : Type 0} {go : ℕ → ℕ → A} {end : A} {p q : Position} {left : ℕ} → Walk (p .size) go end q left → p .id .0 < p .size → Both p q
 walk-beside w l = record { same = w .size; first = l; second = w .below }
+
+-- the position after it
+pub walk-next : {A : Type 0} {n : ℕ} {go : ℕ → ℕ → A} {end : A} {q : Position} {left : ℕ} → Walk n go end q left → {q' : Position} → q' ≡ position (q .size) (next (q .size) (q .id .0)) → q' ≡ position n (next n (q .id .0))
+walk-next {q = q} w e = e ∙ ap (λ m. position m (next m (q .id .0))) (w .size)
+
+pub next-beside : {A : Type 0} {go : ℕ → ℕ → A} {end : A} {p q : Position} {left : ℕ} → Walk (p .size) go end q left → {q' : Position} → q' ≡ position (q .size) (next (q .size) (q .id .0)) → p .id .0 < p .size → Both p q'
+next-beside {p = p} {q = q} w e l = let f = walk-next w e in record { same = at-size f; first = l; second = rw (at-id f) (next-lt (p .size) (q .id .0) (w .below)) }

@@ -1,3 +1,4 @@
 pub mod Walk
 pub mod Runs
+pub mod Best
 pub mod Plan

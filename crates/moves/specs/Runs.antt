@@ -29,13 +29,21 @@ pub record RunIn (n : ℕ) (s : Run) : Type 0 where
   pub below : s .from .id .0 < n
   pub few : s .edges < n
 
--- the points of both runs, ends included
-abbrev pub runPoints : ℕ → Run → Run → List ℕ
-runPoints n a b = stretch n (a .from .id .0) (suc (a .edges)) ++ stretch n (b .from .id .0) (suc (b .edges))
+-- the points of a run, both ends included
+abbrev pub pointsOf : ℕ → Run → List ℕ
+pointsOf n s = stretch n (s .from .id .0) (suc (s .edges))
 
--- the edges of both runs
+-- its edges
+abbrev pub edgesOf : ℕ → Run → List ℕ
+edgesOf n s = stretch n (s .from .id .0) (s .edges)
+
+-- the points of two runs
+abbrev pub runPoints : ℕ → Run → Run → List ℕ
+runPoints n a b = pointsOf n a ++ pointsOf n b
+
+-- their edges
 abbrev pub runEdges : ℕ → Run → Run → List ℕ
-runEdges n a b = stretch n (a .from .id .0) (a .edges) ++ stretch n (b .from .id .0) (b .edges)
+runEdges n a b = edgesOf n a ++ edgesOf n b
 
 -- two different edges that meet, on one line
 pub record Folded (n : ℕ) (pt : ℕ → Point) (r : List ℕ) (a b : ℕ) : Type 0 where

@@ -1,14 +1,25 @@
-// The search of a hoist (two_opt.rs, in `untangle`): a kink of two runs, and an edge of them that holds it. The kinks are searched anew for each edge.
+// The search of a hoist (two_opt.rs, in `untangle`): of the edges of two runs, in order, the first that holds a kink of them, and the first such kink.
+//
+// The original goes from edge to edge, and for each over all the points. Here each point is asked once whether it is a kink, and is then looked for
+// only among the edges that come before the best one so far: an edge that comes later can be no answer.
 ghost use mathlib.Core.Path.{_≡_};
-ghost use Prim.Native.Nat.{_+_, _<_};
+ghost use mathlib.Core.Bool.{_&&_};
+ghost use Prim.Native.Nat.{min, _<_};
+ghost use lib.Dec.{eqb};
+ghost use Rattle.geometry.specs.Plane.{ltP};
 ghost use Rattle.geometry.specs.Lent.{points};
-ghost use Rattle.polygon.specs.Ring.{stretch};
-ghost use Rattle.machine.specs.Search.{firstKink, searchEdges, kinkAndEdge};
+ghost use Rattle.polygon.specs.Ring.{next};
+ghost use Rattle.machine.specs.Board.{ptAt};
+ghost use Rattle.machine.specs.Search.{heldAt, searchEdges, kinkAndEdge};
 ghost use Rattle.moves.specs.Walk.{RingOver, Both};
-ghost use Rattle.moves.specs.Runs.{RunIn, mergableOf, runPoints, runEdges};
+ghost use Rattle.moves.specs.Runs.{RunIn, mergableOf, pointsOf, edgesOf, runPoints, runEdges};
+ghost use Rattle.moves.specs.Best.{better, withKink, overKinks};
 use super::extremes::Run;
 use super::extremes::linear_extremes;
-use super::vertex::is_mergable;
+use super::vertex::holds;
+use super::vertex::is_kink;
+use super::vertex::number_at;
+use geometry::point::less_at;
 use polygon::position::Position;
 use polygon::position::PositionId;
 
@@ -18,79 +29,153 @@ pub enum Mergable {
     Nothing,
 }
 
-// The first kink among `count` positions that the edge holds.
-fn first_kink(
+// The best pair so far, and how many edges of both runs come before its edge: all of them while nothing is found.
+pub struct Best {
+    pub passed: u16,
+    pub found: Mergable,
+}
+
+// The lesser of two counts of edges.
+fn lesser_count(a: u16, b: u16) -> u16
+    ensures { λ r. ⌜ r ≡ min a b ⌝ }
+{
+    if a < b { a } else { b }
+}
+
+// The point at a position is below the kink in point order.
+fn is_below(x: &[i32], y: &[i32], ring: &[u16], at: Position, kink: Position) -> bool
+    requires { ⌜ RingOver (kink .size) (now x) (now y) (now ring) × Both kink at ⌝ }
+    ensures { λ r. ⌜ r ≡ ltP (ptAt (points (now (x .entry)) (now (y .entry))) (now (ring .entry)) (at .id .0)) (ptAt (points (now (x .entry)) (now (y .entry))) (now (ring .entry)) (kink .id .0)) ⌝ }
+{
+    less_at(x, y, number_at(ring, at), number_at(ring, kink))
+}
+
+// The edge holds the kink. Only an edge whose ends lie on both sides of the kink in point order can: `first` and `second` tell which of them is below it.
+fn holds_between(
     x: &[i32],
     y: &[i32],
     ring: &[u16],
     edge: Position,
-    from: Position,
-    count: u16,
-) -> Mergable
-    requires { ⌜ RingOver (edge .size) (now x) (now y) (now ring) × Both edge from ⌝ }
-    ensures { λ r. ⌜ mergableOf r ≡ firstKink (edge .size) (points (now (x .entry)) (now (y .entry))) (now (ring .entry)) (edge .id .0) (stretch (edge .size) (from .id .0) count) ⌝ }
+    kink: Position,
+    first: bool,
+    second: bool,
+) -> bool
+    requires { ⌜ RingOver (kink .size) (now x) (now y) (now ring) × Both kink edge × (first ≡ ltP (ptAt (points (now x) (now y)) (now ring) (edge .id .0)) (ptAt (points (now x) (now y)) (now ring) (kink .id .0))) × (second ≡ ltP (ptAt (points (now x) (now y)) (now ring) (next (kink .size) (edge .id .0))) (ptAt (points (now x) (now y)) (now ring) (kink .id .0))) ⌝ }
+    ensures { λ r. ⌜ r ≡ heldAt (kink .size) (points (now (x .entry)) (now (y .entry))) (now (ring .entry)) (kink .id .0) (edge .id .0) ⌝ }
 {
-    let mut at = from;
-    let mut left = count;
-    while left > 0 {
-        if is_mergable(x, y, ring, edge, at) {
-            let kink = at.id;
-            let edge = edge.id;
-            return Mergable::Found { kink, edge };
-        }
-        at = at.next();
-        left -= 1;
+    if first == second {
+        return false;
     }
-    Mergable::Nothing
+    holds(x, y, ring, edge, kink)
 }
 
-// The first kink of both runs that the edge holds.
-fn kink_of_runs(x: &[i32], y: &[i32], ring: &[u16], edge: Position, a: Run, b: Run) -> Mergable
-    requires { ⌜ RingOver (edge .size) (now x) (now y) (now ring) × (edge .id .0 < edge .size) × RunIn (edge .size) a × RunIn (edge .size) b ⌝ }
-    ensures { λ r. ⌜ mergableOf r ≡ firstKink (edge .size) (points (now (x .entry)) (now (y .entry))) (now (ring .entry)) (edge .id .0) (runPoints (edge .size) a b) ⌝ }
+// The kink with the first edge of a run that holds it, if that comes before the best edge so far. `before` edges come before the run.
+fn better_on_run(
+    x: &[i32],
+    y: &[i32],
+    ring: &[u16],
+    kink: Position,
+    run: Run,
+    before: u16,
+    best: Best,
+) -> Best
+    requires { ⌜ RingOver (kink .size) (now x) (now y) (now ring) × (kink .id .0 < kink .size) × RunIn (kink .size) run × (before < kink .size) ⌝ }
+    ensures { λ r. ⌜ r ≡ better (kink .size) (points (now (x .entry)) (now (y .entry))) (now (ring .entry)) (kink .id .0) before (edgesOf (kink .size) run) best ⌝ }
 {
-    let of_a = first_kink(x, y, ring, edge, a.from, a.edges + 1);
-    match of_a {
-        Mergable::Found { kink, edge } => Mergable::Found { kink, edge },
-        Mergable::Nothing => first_kink(x, y, ring, edge, b.from, b.edges + 1),
-    }
-}
-
-// The first edge of a run that holds a kink of both, with its first such kink.
-fn search_run(x: &[i32], y: &[i32], ring: &[u16], run: Run, a: Run, b: Run) -> Mergable
-    requires { ⌜ RingOver (run .from .size) (now x) (now y) (now ring) × RunIn (run .from .size) run × RunIn (run .from .size) a × RunIn (run .from .size) b ⌝ }
-    ensures { λ r. ⌜ mergableOf r ≡ searchEdges (run .from .size) (points (now (x .entry)) (now (y .entry))) (now (ring .entry)) (runPoints (run .from .size) a b) (stretch (run .from .size) (run .from .id .0) (run .edges)) ⌝ }
-{
+    let after = before + run.edges;
+    let end = lesser_count(best.passed, after);
     let mut at = run.from;
-    let mut left = run.edges;
-    while left > 0 {
-        if let Mergable::Found { kink, edge } = kink_of_runs(x, y, ring, at, a, b) {
-            return Mergable::Found { kink, edge };
+    let mut below = is_below(x, y, ring, at, kink);
+    let mut passed = before;
+    while passed < end {
+        let next = at.next();
+        let next_below = is_below(x, y, ring, next, kink);
+        if holds_between(x, y, ring, at, kink, below, next_below) {
+            let kink = kink.id;
+            let edge = at.id;
+            let found = Mergable::Found { kink, edge };
+            return Best { passed, found };
         }
+        at = next;
+        below = next_below;
+        passed += 1;
+    }
+    best
+}
+
+// The best pair with one point more, if that is a kink.
+fn with_kink(x: &[i32], y: &[i32], ring: &[u16], kink: Position, a: Run, b: Run, best: Best) -> Best
+    requires { ⌜ RingOver (kink .size) (now x) (now y) (now ring) × (kink .id .0 < kink .size) × RunIn (kink .size) a × RunIn (kink .size) b ⌝ }
+    ensures { λ r. ⌜ r ≡ withKink (kink .size) (points (now (x .entry)) (now (y .entry))) (now (ring .entry)) (runEdges (kink .size) a b) (kink .id .0) best ⌝ }
+{
+    if !is_kink(x, y, ring, kink) {
+        return best;
+    }
+    let of_a = better_on_run(x, y, ring, kink, a, 0, best);
+    better_on_run(x, y, ring, kink, b, a.edges, of_a)
+}
+
+// The best pair with all points of a run, its end included.
+fn with_run(x: &[i32], y: &[i32], ring: &[u16], run: Run, a: Run, b: Run, start: Best) -> Best
+    requires { ⌜ RingOver (run .from .size) (now x) (now y) (now ring) × RunIn (run .from .size) run × RunIn (run .from .size) a × RunIn (run .from .size) b ⌝ }
+    ensures { λ r. ⌜ r ≡ overKinks (run .from .size) (points (now (x .entry)) (now (y .entry))) (now (ring .entry)) (runEdges (run .from .size) a b) (pointsOf (run .from .size) run) start ⌝ }
+{
+    let mut best = start;
+    let mut at = run.from;
+    let mut left = run.edges + 1;
+    while left > 0 {
+        best = with_kink(x, y, ring, at, a, b, best);
         at = at.next();
         left -= 1;
     }
-    Mergable::Nothing
+    best
 }
 
-// Edges of both runs in order, the first that holds a kink.
+// The search of one run.
+fn search_run(x: &[i32], y: &[i32], ring: &[u16], run: Run) -> Mergable
+    requires { ⌜ RingOver (run .from .size) (now x) (now y) (now ring) × RunIn (run .from .size) run ⌝ }
+    ensures { λ r. ⌜ mergableOf r ≡ searchEdges (run .from .size) (points (now (x .entry)) (now (y .entry))) (now (ring .entry)) (pointsOf (run .from .size) run) (edgesOf (run .from .size) run) ⌝ }
+{
+    let from = run.from;
+    let no_edges = Run { from, edges: 0 };
+    let unfound = Best {
+        passed: run.edges,
+        found: Mergable::Nothing,
+    };
+    let best = with_run(x, y, ring, run, run, no_edges, unfound);
+    best.found
+}
+
+// The search of two runs.
 fn search_runs(x: &[i32], y: &[i32], ring: &[u16], a: Run, b: Run) -> Mergable
     requires { ⌜ RingOver (a .from .size) (now x) (now y) (now ring) × RunIn (a .from .size) a × RunIn (a .from .size) b ⌝ }
     ensures { λ r. ⌜ mergableOf r ≡ searchEdges (a .from .size) (points (now (x .entry)) (now (y .entry))) (now (ring .entry)) (runPoints (a .from .size) a b) (runEdges (a .from .size) a b) ⌝ }
 {
-    let of_a = search_run(x, y, ring, a, a, b);
-    match of_a {
-        Mergable::Found { kink, edge } => Mergable::Found { kink, edge },
-        Mergable::Nothing => search_run(x, y, ring, b, a, b),
-    }
+    let unfound = Best {
+        passed: a.edges + b.edges,
+        found: Mergable::Nothing,
+    };
+    let of_a = with_run(x, y, ring, a, a, b, unfound);
+    let of_b = with_run(x, y, ring, b, a, b, of_a);
+    of_b.found
 }
 
-// The search for the edges that start at two positions.
+// Runs of one ring with the same start and as many edges are one run.
+fn is_same_run(a: Run, b: Run) -> bool
+    ensures { λ r. ⌜ r ≡ (eqb (a .from .id .0) (b .from .id .0) && eqb (a .edges) (b .edges)) ⌝ }
+{
+    (a.from.id.0 == b.from.id.0) & (a.edges == b.edges)
+}
+
+// The search for the edges that start at two positions. Two edges of one run have only that to search.
 pub fn kink_and_edge(x: &[i32], y: &[i32], ring: &[u16], da: Position, db: Position) -> Mergable
     requires { ⌜ RingOver (da .size) (now x) (now y) (now ring) × Both da db ⌝ }
     ensures { λ r. ⌜ mergableOf r ≡ kinkAndEdge (da .size) (points (now (x .entry)) (now (y .entry))) (now (ring .entry)) (da .id .0) (db .id .0) ⌝ }
 {
     let a = linear_extremes(x, y, ring, da);
     let b = linear_extremes(x, y, ring, db);
+    if is_same_run(a, b) {
+        return search_run(x, y, ring, a);
+    }
     search_runs(x, y, ring, a, b)
 }

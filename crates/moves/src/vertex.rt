@@ -4,7 +4,7 @@ ghost use Prim.Native.Nat.{_<_};
 ghost use Rattle.geometry.specs.Lent.{points};
 ghost use Rattle.polygon.specs.Ring.{IsRing, at as entry, next, prev};
 ghost use Rattle.machine.specs.Board.{turnAt, straightLine, kinkAt};
-ghost use Rattle.machine.specs.Search.{heldAt, kinkIn};
+ghost use Rattle.machine.specs.Search.{heldAt};
 ghost use Rattle.moves.specs.Walk.{RingOver, Both};
 use cursor::point_after;
 use geometry::line_segment::inside_at;
@@ -57,7 +57,7 @@ pub fn is_colinear(x: &[i32], y: &[i32], ring: &[u16], at: Position) -> bool
 }
 
 // A kink would shorten the loop if it were taken out: a corner or a turning back. It is not strictly between its neighbours on a line.
-fn is_kink(x: &[i32], y: &[i32], ring: &[u16], at: Position) -> bool
+pub fn is_kink(x: &[i32], y: &[i32], ring: &[u16], at: Position) -> bool
     requires { ⌜ RingOver (at .size) (now x) (now y) (now ring) × (at .id .0 < at .size) ⌝ }
     ensures { λ r. ⌜ r ≡ kinkAt (at .size) (points (now (x .entry)) (now (y .entry))) (now (ring .entry)) (at .id .0) ⌝ }
 {
@@ -68,7 +68,7 @@ fn is_kink(x: &[i32], y: &[i32], ring: &[u16], at: Position) -> bool
 }
 
 // The edge that starts at `edge` holds the point at `kink` strictly inside.
-fn holds(x: &[i32], y: &[i32], ring: &[u16], edge: Position, kink: Position) -> bool
+pub fn holds(x: &[i32], y: &[i32], ring: &[u16], edge: Position, kink: Position) -> bool
     requires { ⌜ RingOver (edge .size) (now x) (now y) (now ring) × Both edge kink ⌝ }
     ensures { λ r. ⌜ r ≡ heldAt (edge .size) (points (now (x .entry)) (now (y .entry))) (now (ring .entry)) (kink .id .0) (edge .id .0) ⌝ }
 {
@@ -76,15 +76,4 @@ fn holds(x: &[i32], y: &[i32], ring: &[u16], edge: Position, kink: Position) -> 
     let end = number_after(ring, edge);
     let point = number_at(ring, kink);
     inside_at(x, y, start, end, point)
-}
-
-// That point is a kink, too. The holding is asked first: it seldom holds.
-pub fn is_mergable(x: &[i32], y: &[i32], ring: &[u16], edge: Position, kink: Position) -> bool
-    requires { ⌜ RingOver (edge .size) (now x) (now y) (now ring) × Both edge kink ⌝ }
-    ensures { λ r. ⌜ r ≡ kinkIn (edge .size) (points (now (x .entry)) (now (y .entry))) (now (ring .entry)) (kink .id .0) (edge .id .0) ⌝ }
-{
-    if !holds(x, y, ring, edge, kink) {
-        return false;
-    }
-    is_kink(x, y, ring, kink)
 }

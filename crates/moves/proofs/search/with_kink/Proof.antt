@@ -1,0 +1,34 @@
+-- `with_kink` meets its contract: the edges of the second run come after those of the first.
+use mathlib.Core.Path.{sym, _∙_}
+use denote.Ref.{now}
+use borrow.Author.Needs.{needs}
+use Rattle.algebra.specs.Cases.{not-true, not-false}
+use Rattle.geometry.specs.Lent.{points}
+use Rattle.moves.specs.Runs.{runEdges}
+use Rattle.moves.proofs.KinkSearch.{best-stays, best-of-both}
+use Rattle.moves.proofs.search.with_kink.Statement.{statement}
+use Rattle.moves.proofs.search.with_kink.Tie as tie
+
+is-kink-requires : tie.Need-is-kink-requires
+is-kink-requires c κs = search needs
+
+returns : tie.Need-returns
+returns c =
+    let s = c .before .before .before .args in
+    best-stays (s .kink .size) (points (now (s .x)) (now (s .y))) (now (s .ring)) (runEdges (s .kink .size) (s .a) (s .b)) (s .kink .id .0) (s .best) (sym (c .before .is-kink .ensures) ∙ not-true _ (c .if1 .taken))
+
+better-on-run-requires : tie.Need-better-on-run-requires
+better-on-run-requires c κs = search needs
+
+better-on-run-requires-2 : tie.Need-better-on-run-requires-2
+better-on-run-requires-2 c κs = search needs
+
+returns-2 : tie.Need-returns-2
+returns-2 c =
+    let s = c .before .before .before .before .before .args in
+    best-of-both (s .kink .size) (points (now (s .x)) (now (s .y))) (now (s .ring)) (s .a) (s .b) (s .kink .id .0) (s .best) (sym (c .before .before .before .is-kink .ensures) ∙ not-false _ (c .before .before .if1 .left)) (c .before .better-on-run .ensures) (c .better-on-run2 .ensures)
+
+pub with-kink-spec : {M : Type 1} → statement M
+with-kink-spec =
+    tie.close
+    (tie.spec is-kink-requires returns better-on-run-requires better-on-run-requires-2 returns-2)
