@@ -2,16 +2,13 @@
 use mathlib.Core.Path.{_≡_, sym, ap, subst⁻¹}
 use mathlib.Core.List.{List}
 use Prim.Native.Nat.{ℕ, _<_}
-use native.Mathlib.Omega.{arith}
 use lib.IntN.{ℤ}
-use Rattle.geometry.specs.Lent.{Here, Lent}
+use Rattle.geometry.specs.Lent.{Here}
+use Rattle.geometry.proofs.Reading.{here}
 use Rattle.polygon.specs.Ring.{IsRing, at}
 use Rattle.polygon.specs.Place.{position}
 use Rattle.polygon.specs.declared.position.Position.{Position}
 use Rattle.moves.specs.Walk.{RingOver, Both}
-
-pub here : {n : ℕ} {x y : List ℤ} {i : ℕ} → Lent n x y → i < n → Here x y i
-here {i = i} l h = record { lx = omega (arith, l .lx); ly = omega (arith, l .ly); nx = l .nx i h; ny = l .ny i h }
 
 -- the point at a position is lent
 pub stands : {n : ℕ} {x y : List ℤ} {r : List ℕ} → RingOver n x y r → {v i : ℕ} → i < n → v ≡ at r i → Here x y v

@@ -1,15 +1,14 @@
 -- A ring names each point once: every point stands somewhere on it, and the test `eachOnce` decides it.
-use mathlib.Core.Path.{_≡_, sym, _∙_, ap}
+use mathlib.Core.Path.{_≡_, sym}
 use mathlib.Core.Bool.{Bool, true, false, not, _&&_, cond}
 use mathlib.Core.List.{List}
 use mathlib.Core.Logic.{_⊎_, inl, inr, _≢_, _↔_}
-use Prim.Native.Nat.{ℕ, zero, suc, _+_, _≤_, _<_}
+use Prim.Native.Nat.{ℕ, zero, suc, _<_}
 use native.Mathlib.Omega.{arith}
-use native.Mathlib.Numerals.{add-one}
 use lib.Dec.{eqb, ltb}
 use lib.ListN.{length}
 use borrow.Author.Tests.{ltb-true, lt-ltb, eqb-true, eq-eqb, ne-eqb}
-use Rattle.algebra.specs.Cases.{both, eq-cases, true-or-false, never, and-left, and-right}
+use Rattle.algebra.specs.Cases.{both, eq-cases, never, and-left, and-right}
 use Rattle.algebra.specs.Ranges.{allBelow, all-true, true-all, by-order}
 use Rattle.polygon.specs.Ring.{at, IsRing, named, eachOnce}
 
@@ -49,16 +48,6 @@ onto (suc n) f low inj v l = onto-step n f low inj (onto n (skip n f) (skip-low 
 -- each point stands somewhere on the ring
 pub ring-has : {n : ℕ} {r : List ℕ} → IsRing n r → (v : ℕ) → v < n → (i : ℕ) × (i < n) × (at r i ≡ v)
 ring-has {n} {r} ring v l = onto n (at r) (ring .below) (ring .apart) v l
-
--- ---- a test of all numbers below a bound, one after the other
-pub all-more : (p : ℕ → Bool) (i : ℕ) → allBelow i p ≡ true → p i ≡ true → allBelow (i + 1) p ≡ true
-all-more p i h e = ap (λ m. allBelow m p) (add-one i) ∙ ap (λ t. t && p i) h ∙ e
-
-pub all-fails : (p : ℕ → Bool) (n i : ℕ) → i < n → p i ≡ false → false ≡ allBelow n p
-all-fails p n i l e = both (true-or-false (allBelow n p)) (λ t. never (p i) (all-true n p t i l) e) (λ t. sym t)
-
-pub all-done : (p : ℕ → Bool) (n i : ℕ) → n ≤ i → i ≤ n → allBelow i p ≡ true → true ≡ allBelow n p
-all-done p n i h k e = sym e ∙ ap (λ m. allBelow m p) (let z : i ≡ n = omega arith in z)
 
 -- ---- the test `eachOnce`
 module _ (n : ℕ) (r : List ℕ) where

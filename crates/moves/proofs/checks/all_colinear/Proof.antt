@@ -4,9 +4,8 @@ use Prim.Native.Nat.{_≤_, _-_}
 use mathlib.Core.Path.{_≡_, refl, sym, _∙_}
 use mathlib.Core.Bool.{true}
 use denote.Ref.{now}
-use Rattle.algebra.specs.Ranges.{allBelow}
+use Rattle.algebra.specs.Ranges.{allBelow, all-more, all-fails, all-done}
 use Rattle.algebra.specs.Cases.{not-true, not-false}
-use Rattle.polygon.proofs.EachOnce.{all-more, all-fails, all-done}
 use Rattle.machine.specs.Board.{straightLine}
 use Rattle.geometry.specs.Lent.{points}
 use Rattle.moves.proofs.checks.all_colinear.Statement.{statement}

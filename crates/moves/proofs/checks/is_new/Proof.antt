@@ -4,11 +4,10 @@ use Prim.Native.Nat.{_≤_, _-_}
 use mathlib.Core.Path.{_≡_, refl, sym, _∙_, ap}
 use mathlib.Core.Bool.{true, not}
 use denote.Ref.{now}
-use Rattle.algebra.specs.Ranges.{allBelow}
-use Rattle.polygon.proofs.EachOnce.{all-more, all-fails, all-done}
+use Rattle.algebra.specs.Ranges.{allBelow, all-more, all-fails, all-done}
 use Rattle.geometry.specs.Plane.{eqP}
 use Rattle.geometry.specs.Lent.{points}
-use Rattle.moves.proofs.RingPositions.{here}
+use Rattle.geometry.proofs.Reading.{here}
 use Rattle.moves.proofs.checks.is_new.Statement.{statement}
 use Rattle.moves.proofs.checks.is_new.Tie as tie
 

@@ -6,9 +6,9 @@ use mathlib.Core.Bool.{true}
 use denote.Ref.{now}
 use lib.ListN.{length}
 use Rattle.algebra.specs.Cases.{not-true, not-false}
-use Rattle.algebra.specs.Ranges.{allBelow}
+use Rattle.algebra.specs.Ranges.{allBelow, all-more, all-fails, all-done}
 use Rattle.polygon.specs.Ring.{named}
-use Rattle.polygon.proofs.EachOnce.{all-more, all-fails, all-done, each-below}
+use Rattle.polygon.proofs.EachOnce.{each-below}
 use Rattle.polygon.proofs.polygon.each_once.Statement.{statement}
 use Rattle.polygon.proofs.polygon.each_once.Tie as tie
 

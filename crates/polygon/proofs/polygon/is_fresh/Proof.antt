@@ -9,9 +9,8 @@ use denote.Ref.{now}
 use lib.Dec.{eqb}
 use lib.ListN.{length}
 use borrow.Author.Tests.{eq-eqb, ne-eqb}
-use Rattle.algebra.specs.Ranges.{allBelow}
+use Rattle.algebra.specs.Ranges.{allBelow, all-more, all-fails, all-done}
 use Rattle.polygon.specs.Ring.{at}
-use Rattle.polygon.proofs.EachOnce.{all-more, all-fails, all-done}
 use Rattle.polygon.proofs.polygon.is_fresh.Statement.{statement}
 use Rattle.polygon.proofs.polygon.is_fresh.Tie as tie
 

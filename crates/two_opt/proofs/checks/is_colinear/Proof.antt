@@ -6,7 +6,7 @@ use Rattle.geometry.specs.Plane.{isZero, collinear}
 use Rattle.geometry.specs.Lent.{points}
 use Rattle.geometry.proofs.Reading.{zero-bits}
 use Rattle.polygon.proofs.Positions.{next-lt, prev-lt}
-use Rattle.moves.proofs.RingPositions.{here}
+use Rattle.geometry.proofs.Reading.{here}
 use Rattle.two_opt.proofs.Checking.{in-order-line}
 use Rattle.two_opt.proofs.checks.is_colinear.Statement.{statement}
 use Rattle.two_opt.proofs.checks.is_colinear.Tie as tie
