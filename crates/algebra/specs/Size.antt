@@ -2,7 +2,7 @@
 use Prim.Native.Nat.{ℕ, _+_, _*_, _^_, _≤_, _<_}
 use native.Mathlib.Omega.{arith}
 use native.Mathlib.Nat.{mul-le-mul-left, mul-le-mul-right, le-trans}
-use lib.IntN.{ℤ, pos, negsuc, _-ℤ_, _*ℤ_}
+use lib.IntN.{ℤ, pos, negsuc, _+ℤ_, _-ℤ_, _*ℤ_}
 use mir.Syntax.{Width}
 use mir.Val.{SFits, hbits}
 use Rattle.algebra.specs.Integers.{P, N, Is, is-self, is-add, is-neg, is-mul}
@@ -16,6 +16,9 @@ abs-is (negsuc n) a b h = omega (arith, h .is)
 
 pub abs-sub : (a b : ℤ) → abs (a -ℤ b) ≤ abs a + abs b
 abs-sub a b = omega (arith, abs-is (a -ℤ b) (P a + N b) (N a + P b) (is-add (is-self a) (is-neg (is-self b))))
+
+pub abs-add : (a b : ℤ) → abs (a +ℤ b) ≤ abs a + abs b
+abs-add a b = omega (arith, abs-is (a +ℤ b) (P a + P b) (N a + N b) (is-add (is-self a) (is-self b)))
 
 pub abs-mul : (a b : ℤ) → abs (a *ℤ b) ≤ abs a * abs b
 abs-mul a b = omega (arith, abs-is (a *ℤ b) (P a * P b + N a * N b) (P a * N b + N a * P b) (is-mul (is-self a) (is-self b)))

@@ -18,6 +18,7 @@ pub mod Containing
 pub mod Meeting
 pub mod Height
 pub mod Reading
+pub mod Ordering
 pub mod Choosing
 pub mod MeetingParts
 pub mod Answering

@@ -6,13 +6,13 @@ use mathlib.Core.List.{List}
 use Prim.Native.Nat.{ℕ, _^_, _≤_, _<_}
 use native.Mathlib.Omega.{arith}
 use lib.Dec.{eqb}
-use lib.IntN.{ℤ, pos, negsuc, _-ℤ_, _*ℤ_}
+use lib.IntN.{ℤ, pos, negsuc, _+ℤ_, _-ℤ_, _*ℤ_}
 use lib.Signed.{mag}
 use mir.Syntax.{Width, w32, w64}
 use mir.Val.{SFits, toZ, ofZ}
 use mir.ValLaws.{toZ-ofZ}
 use borrow.Author.Tests.{eq-eqb, ne-eqb, leb-true}
-use Rattle.algebra.specs.Size.{abs, abs-sub, abs-mul, mul-bound, fits, fits-abs}
+use Rattle.algebra.specs.Size.{abs, abs-add, abs-sub, abs-mul, mul-bound, fits, fits-abs}
 use Rattle.algebra.specs.Cases.{both, and-left, and-right}
 use Rattle.geometry.specs.Plane.{Point, isZero, eqZ, near, nearP}
 use Rattle.geometry.specs.Lent.{points, InRange, Here, Lent}
@@ -64,6 +64,11 @@ mul-fits u v h k = omega (arith, abs-mul u v, mul-bound (abs u) (abs v) 20000000
 
 pub cross-bound : (u v w z : ℤ) → abs u ≤ 2000000000 → abs v ≤ 2000000000 → abs w ≤ 2000000000 → abs z ≤ 2000000000 → abs (u *ℤ v -ℤ w *ℤ z) ≤ 8000000000000000000
 cross-bound u v w z hu hv hw hz = omega (arith, abs-sub (u *ℤ v) (w *ℤ z), mul-fits u v hu hv, mul-fits w z hw hz)
+
+pub joined-fits : (x y : ℤ) → abs x ≤ 1000000000 → abs y ≤ 1000000000 → (abs (x *ℤ pos 4294967296) ≤ 8000000000000000000) × (abs (x *ℤ pos 4294967296 +ℤ y) ≤ 8000000000000000000)
+joined-fits x y hx hy =
+    let m : abs (x *ℤ pos 4294967296) ≤ 4294967296000000000 = omega (arith, abs-mul x (pos 4294967296), mul-bound (abs x) (abs (pos 4294967296)) 1000000000 4294967296 hx (omega arith)) in
+    (omega arith, omega (arith, abs-add (x *ℤ pos 4294967296) y))
 
 -- ---- within the limits, as facts
 pub in-range : (p : Point) → nearP p ≡ true → InRange p

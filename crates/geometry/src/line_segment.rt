@@ -81,7 +81,7 @@ fn between(a: Point, b: Point, p: Point) -> bool
     !is_less(p, lesser(a, b)) & !is_less(greater(a, b), p)
 }
 
-fn is_zero(t: i64) -> bool
+pub fn is_zero(t: i64) -> bool
     ensures { λ r. ⌜ r ≡ isZero t ⌝ }
 {
     t == 0

@@ -1,7 +1,10 @@
 // Points (point.rs): their limits and their order.
 ghost use mathlib.Core.Path.{_≡_};
-ghost use Rattle.geometry.specs.Plane.{near, nearP, eqP, ltP, minP, maxP};
-ghost use Rattle.geometry.specs.Lent.{spot, points, Here};
+ghost use Prim.Native.Nat.{_≤_};
+ghost use lib.IntN.{pos, _+ℤ_, _*ℤ_};
+ghost use Rattle.algebra.specs.Size.{abs};
+ghost use Rattle.geometry.specs.Plane.{near, nearP, eqP, ltP, minP, maxP, orderKey};
+ghost use Rattle.geometry.specs.Lent.{spot, points, InRange, Here};
 
 pub struct Point {
     pub x: i32,
@@ -44,6 +47,29 @@ pub fn greater(a: Point, b: Point) -> Point
     ensures { λ r. ⌜ spot r ≡ maxP (spot a) (spot b) ⌝ }
 {
     if is_less(a, b) { b } else { a }
+}
+
+// In 64 bits.
+fn wide(v: i32) -> i64
+    ensures { λ r. ⌜ r ≡ v ⌝ }
+{
+    v as i64
+}
+
+// 2³² times x, and y: for coordinates within the limits it fits.
+fn joined(x: i64, y: i64) -> i64
+    requires { ⌜ (abs x ≤ 1000000000) × (abs y ≤ 1000000000) ⌝ }
+    ensures { λ r. ⌜ r ≡ x *ℤ pos 4294967296 +ℤ y ⌝ }
+{
+    x * 4_294_967_296 + y
+}
+
+// A number that orders points within the limits as `is_less` does: both coordinates in one comparison.
+pub fn order_key(p: Point) -> i64
+    requires { ⌜ InRange (spot p) ⌝ }
+    ensures { λ r. ⌜ r ≡ orderKey (spot p) ⌝ }
+{
+    joined(wide(p.x), wide(p.y))
 }
 
 // Point number i of the lent x and y.

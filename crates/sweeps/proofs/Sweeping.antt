@@ -14,7 +14,7 @@ use Rattle.algebra.specs.Ranges.{upFrom, upFrom-length}
 use borrow.Author.Tests.{ltb-true, ltb-false}
 use Rattle.algebra.specs.Cases.{both, not-true, and-left}
 use Rattle.algebra.specs.Counting.{length-snoc}
-use Rattle.geometry.specs.Plane.{Point}
+use Rattle.geometry.specs.Plane.{Point, orderKey}
 use Rattle.geometry.specs.Lent.{points, Lent}
 use Rattle.index_edge.specs.Edge.{Edge, edge, eqE, ltE}
 use Rattle.index_edge.proofs.Edges.{ltE-diff}
@@ -55,7 +55,7 @@ two b = omega (arith, b .three)
 
 -- ---- what is carried along the ring
 sees-itself : {pt : ℕ → Point} {e : Edge} {v : ℕ} {s : Seen} → Sees pt e v s → Sees pt e (s .id .0) s
-sees-itself {pt} {e} z = record { number = refl; place = z .place ∙ sym (ap pt (z .number)); side = z .side ∙ sym (ap (turnTo pt e) (z .number)) }
+sees-itself {pt} {e} z = record { number = refl; place = z .place ∙ sym (ap pt (z .number)); order = z .order ∙ sym (ap (λ v. orderKey (pt v)) (z .number)); side = z .side ∙ sym (ap (turnTo pt e) (z .number)) }
 
 -- the point after position i, where that is not the last
 pub sees-on : (n : ℕ) {pt : ℕ → Point} (r : List ℕ) {e : Edge} {s : Seen} (i : ℕ) → Sees pt e (at r (next n i)) s → i + 1 < n → Sees pt e (at r (i + 1)) s

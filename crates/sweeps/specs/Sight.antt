@@ -3,7 +3,7 @@ use mathlib.Core.Path.{_≡_}
 use mathlib.Core.List.{List}
 use Prim.Native.Nat.{ℕ}
 use lib.IntN.{ℤ}
-use Rattle.geometry.specs.Plane.{Point, turn}
+use Rattle.geometry.specs.Plane.{Point, turn, minP, maxP, orderKey}
 use Rattle.geometry.specs.Lent.{spot, points, Lent}
 use Rattle.index_edge.specs.Edge.{Edge, edge}
 use Rattle.index_edge.specs.Number.{edgeOf}
@@ -20,10 +20,12 @@ pub record Among (x y : List ℤ) (e f : Edge) : Type 0 where
   pub first : Proper n e
   pub second : Proper n f
 
--- the points of a segment are those that its edge names
+-- the points of a segment are those that its edge names, and its keys those of the lesser and the greater
 pub record Spans (pt : ℕ → Point) (s : Segment) : Type 0 where
-  pub low : spot (s .min) ≡ pt (s .edge .min .0)
-  pub high : spot (s .max) ≡ pt (s .edge .max .0)
+  pub first : spot (s .min) ≡ pt (s .edge .min .0)
+  pub second : spot (s .max) ≡ pt (s .edge .max .0)
+  pub least : s .low ≡ orderKey (minP (pt (s .edge .min .0)) (pt (s .edge .max .0)))
+  pub greatest : s .high ≡ orderKey (maxP (pt (s .edge .min .0)) (pt (s .edge .max .0)))
 
 -- how an edge turns to a point
 abbrev pub turnTo : (ℕ → Point) → Edge → ℕ → ℤ
@@ -33,6 +35,7 @@ turnTo pt e v = turn (pt (e .lo)) (pt (e .hi)) (pt v)
 pub record Sees (pt : ℕ → Point) (e : Edge) (v : ℕ) (s : Seen) : Type 0 where
   pub number : s .id .0 ≡ v
   pub place : spot (s .at) ≡ pt v
+  pub order : s .key ≡ orderKey (pt v)
   pub side : s .turn ≡ turnTo pt e v
 
 -- an edge, and two points between which another goes

@@ -20,7 +20,7 @@ returns : tie.Need-returns
 returns c =
     let s = c .before .before .before .before .args in λ x y v.
     unmet (v .among) (s .moves)
-    (not-met (points x y) (edgeOf (s .a .edge)) (s .from .id .0) (s .to .id .0) (v .first .side) (v .second .side) (c .before .same-side .ensures ∙ ap₂ sameSide (read-64 {z = s .from .turn} (c .before .before .before .struct-told .given .1 .1 .0 .1) refl) (read-64 {z = s .to .turn} (c .before .before .struct-told2 .given .1 .1 .0 .1) refl)) (c .if1 .taken))
+    (not-met (points x y) (edgeOf (s .a .edge)) (s .from .id .0) (s .to .id .0) (v .first .side) (v .second .side) (c .before .same-side .ensures ∙ ap₂ sameSide (read-64 {z = s .from .turn} (c .before .before .before .struct-told .given .1 .1 .1 .0 .1) refl) (read-64 {z = s .to .turn} (c .before .before .struct-told2 .given .1 .1 .1 .0 .1) refl)) (c .if1 .taken))
 
 is-asked-requires : tie.Need-is-asked-requires
 is-asked-requires c κs = search needs
