@@ -9,9 +9,9 @@ use lib.Signed.{ltZ, _≤ℤ_, _<ℤ_}
 use Rattle.algebra.specs.Integers.{P, N, Is, is-self, is-cast, is-add, is-mul}
 use Rattle.algebra.specs.Order.{le-down, le-up, lt-down, lt-up}
 use Rattle.algebra.specs.Cases.{both, true-or-false}
-use Rattle.geometry.specs.Plane.{Point, Before, near, ltP, minP, maxP, orderKey}
+use Rattle.geometry.specs.Plane.{Point, Before, near, ltP, minP, maxP}
 use Rattle.geometry.specs.Segment.{overlap}
-use Rattle.geometry.specs.Lent.{InRange}
+use Rattle.geometry.specs.Lent.{InRange, orderKey}
 use Rattle.geometry.proofs.Points.{ltZ-cases, below-is, ltP-trans, ltP-total, ltP-flip, not-below, lt-le, le-lt}
 use Rattle.geometry.proofs.Reading.{abs-near}
 

@@ -3,7 +3,7 @@ use mathlib.Core.Path.{_≡_}
 use mathlib.Core.Bool.{true}
 use mathlib.Core.List.{List}
 use Prim.Native.Nat.{ℕ, _≤_, _<_}
-use lib.IntN.{ℤ, pos}
+use lib.IntN.{ℤ, pos, _+ℤ_, _*ℤ_}
 use lib.ListN.{length, getD}
 use Rattle.geometry.specs.declared.point.Point.{Point as PointValue}
 use Rattle.geometry.specs.Plane.{Point, near}
@@ -11,6 +11,10 @@ use Rattle.geometry.specs.Plane.{Point, near}
 -- the place of a point that is held by value
 abbrev pub spot : PointValue → Point
 spot p = record { x = p .x; y = p .y }
+
+-- a number that orders the points within the limits as ltP does
+abbrev pub orderKey : Point → ℤ
+orderKey a = a .x *ℤ pos 4294967296 +ℤ a .y
 
 -- what stands at a place of a list, and 0 past its end
 abbrev pub coord : List ℤ → ℕ → ℤ

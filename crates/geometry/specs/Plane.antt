@@ -2,7 +2,7 @@
 use mathlib.Core.Path.{_≡_}
 use mathlib.Core.Bool.{Bool, false, _&&_, _||_, cond}
 use mathlib.Core.Logic.{_⊎_}
-use lib.IntN.{ℤ, pos, negsuc, _+ℤ_, _-ℤ_, _*ℤ_}
+use lib.IntN.{ℤ, pos, negsuc, _-ℤ_, _*ℤ_}
 use lib.Signed.{leZ, ltZ, _<ℤ_}
 use lib.Dec.{eqb}
 pub use Rattle.algebra.specs.Identities.{Pair as Point}
@@ -48,7 +48,3 @@ near z = leZ (negsuc 999999999) z && leZ z (pos 1000000000)
 
 abbrev pub nearP : Point → Bool
 nearP a = near (a .x) && near (a .y)
-
--- A number that orders the points within the limits as ltP does.
-abbrev pub orderKey : Point → ℤ
-orderKey a = a .x *ℤ pos 4294967296 +ℤ a .y

@@ -3,8 +3,8 @@ ghost use mathlib.Core.Path.{_≡_};
 ghost use Prim.Native.Nat.{_≤_};
 ghost use lib.IntN.{pos, _+ℤ_, _*ℤ_};
 ghost use Rattle.algebra.specs.Size.{abs};
-ghost use Rattle.geometry.specs.Plane.{near, nearP, eqP, ltP, minP, maxP, orderKey};
-ghost use Rattle.geometry.specs.Lent.{spot, points, InRange, Here};
+ghost use Rattle.geometry.specs.Plane.{near, nearP, eqP, ltP, minP, maxP};
+ghost use Rattle.geometry.specs.Lent.{spot, points, InRange, Here, orderKey};
 
 pub struct Point {
     pub x: i32,

@@ -9,9 +9,9 @@ use lib.IntN.{ℤ}
 use lib.Signed.{ltZ}
 use lib.Dec.{eqb, ltb}
 use Rattle.algebra.specs.Cases.{both, true-or-false, eq-cases}
-use Rattle.geometry.specs.Plane.{Point, isZero, eqP, ltP, minP, maxP, orderKey}
+use Rattle.geometry.specs.Plane.{Point, isZero, eqP, ltP, minP, maxP}
 use Rattle.geometry.specs.Segment.{sameSide, shared, overlap, meets}
-use Rattle.geometry.specs.Lent.{points, InRange, Here}
+use Rattle.geometry.specs.Lent.{points, InRange, Here, orderKey}
 use Rattle.geometry.proofs.Points.{eqP-same, eqP-true}
 use Rattle.geometry.proofs.Reading.{here-in-range, here}
 use Rattle.geometry.proofs.MeetingParts.{meets-on-line, beside}

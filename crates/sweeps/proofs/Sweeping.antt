@@ -14,8 +14,8 @@ use Rattle.algebra.specs.Ranges.{upFrom, upFrom-length}
 use borrow.Author.Tests.{ltb-true, ltb-false}
 use Rattle.algebra.specs.Cases.{both, not-true, and-left}
 use Rattle.algebra.specs.Counting.{length-snoc}
-use Rattle.geometry.specs.Plane.{Point, orderKey}
-use Rattle.geometry.specs.Lent.{points, Lent}
+use Rattle.geometry.specs.Plane.{Point}
+use Rattle.geometry.specs.Lent.{points, Lent, orderKey}
 use Rattle.index_edge.specs.Edge.{Edge, edge, eqE, ltE}
 use Rattle.index_edge.proofs.Edges.{ltE-diff}
 use Rattle.index_edge.specs.Number.{edgeOf}

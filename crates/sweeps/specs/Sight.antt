@@ -3,8 +3,8 @@ use mathlib.Core.Path.{_≡_}
 use mathlib.Core.List.{List}
 use Prim.Native.Nat.{ℕ}
 use lib.IntN.{ℤ}
-use Rattle.geometry.specs.Plane.{Point, turn, minP, maxP, orderKey}
-use Rattle.geometry.specs.Lent.{spot, points, Lent}
+use Rattle.geometry.specs.Plane.{Point, turn, minP, maxP}
+use Rattle.geometry.specs.Lent.{spot, points, Lent, orderKey}
 use Rattle.index_edge.specs.Edge.{Edge, edge}
 use Rattle.index_edge.specs.Number.{edgeOf}
 use Rattle.intersection_set.specs.Within.{Proper}

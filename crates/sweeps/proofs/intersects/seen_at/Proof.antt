@@ -3,8 +3,8 @@ use mathlib.Core.Path.{_≡_, _∙_, ap, subst⁻¹}
 use native.Mathlib.Omega.{arith}
 use denote.Ref.{now}
 use borrow.Author.Needs.{needs}
-use Rattle.geometry.specs.Plane.{turn, orderKey}
-use Rattle.geometry.specs.Lent.{spot, points, InRange, Here}
+use Rattle.geometry.specs.Plane.{turn}
+use Rattle.geometry.specs.Lent.{spot, points, InRange, Here, orderKey}
 use Rattle.geometry.proofs.Reading.{read-64, here-in-range, here}
 use Rattle.polygon.specs.Ring.{at}
 use Rattle.sweeps.proofs.intersects.seen_at.Statement.{statement}

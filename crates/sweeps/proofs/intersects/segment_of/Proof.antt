@@ -2,8 +2,8 @@
 use mathlib.Core.Path.{_≡_, refl, sym, _∙_, ap, subst⁻¹}
 use denote.Ref.{now}
 use borrow.Author.Needs.{needs}
-use Rattle.geometry.specs.Plane.{Point, ltP, minP, maxP, orderKey}
-use Rattle.geometry.specs.Lent.{spot, points, InRange}
+use Rattle.geometry.specs.Plane.{Point, ltP, minP, maxP}
+use Rattle.geometry.specs.Lent.{spot, points, InRange, orderKey}
 use Rattle.geometry.proofs.Reading.{read-64, here-in-range}
 use Rattle.sweeps.proofs.Seeing.{either-in-range}
 use Rattle.sweeps.proofs.intersects.segment_of.Statement.{statement}
