@@ -136,6 +136,10 @@ fn with_run(x: &[i32], y: &[i32], ring: &[u16], run: Run, a: Run, b: Run, start:
     let mut here = point_of(x, y, ring, at);
     let mut left = run.edges + 1;
     while left > 0 {
+        // No pair is better than one of the first edge.
+        if best.passed == 0 {
+            return best;
+        }
         let next = at.next();
         let after = point_of(x, y, ring, next);
         // A kink would shorten the loop if it were taken out: a corner or a turning back. It is not strictly between its neighbours on a line.

@@ -1,7 +1,6 @@
 -- `with_run` meets its contract. The loop's invariant: the points from here on, with the best pair so far, come to the same pair, and the points at this place and
 -- before it are carried.
 use native.Mathlib.Omega.{arith}
-use native.Mathlib.Numerals.{add-one}
 use mathlib.Core.Path.{refl, _∙_, ap}
 use mathlib.Core.Bool.{not}
 use denote.Ref.{now}
@@ -13,7 +12,7 @@ use Rattle.moves.specs.Best.{overKinks}
 use Rattle.moves.proofs.RingPositions.{over-at}
 use Rattle.moves.proofs.RingWalk.{Walk, walk-within, walk-runs}
 use Rattle.moves.proofs.Carried.{Carried, way-on, carried-first, step-over, three-in-range, carried-on}
-use Rattle.moves.proofs.KinkSearch.{kink-is, kink-goes, kinks-end}
+use Rattle.moves.proofs.KinkSearch.{kink-is, all-points, kink-goes, kinks-stop, kinks-end}
 use Rattle.moves.proofs.search.with_run.Statement.{statement}
 use Rattle.moves.proofs.search.with_run.Tie as tie
 
@@ -41,39 +40,50 @@ loop-holds : tie.Need-loop-holds Inv-loop μ-loop
 loop-holds c = (record { size = refl; below = c .before .before .before .before .before .before .pre .1 .below; same = refl }, carried-first way-on (c .before .before .before .prev .ensures) (c .before .before .point-of .ensures) (c .before .point-of2 .ensures))
 
 next-requires : tie.Need-next-requires Inv-loop μ-loop
-next-requires c κs = walk-within (c .before .loop .inv .0)
+next-requires c κs = walk-within (c .before .before .before .loop .inv .0)
 
 point-of-requires-3 : tie.Need-point-of-requires-3 Inv-loop μ-loop
-point-of-requires-3 c κs = step-over way-on (c .before .before .loop .inv .0) (c .next .ensures) (c .before .before .before .before .before .before .before .before .before .pre .0)
+point-of-requires-3 c κs = step-over way-on (c .before .before .before .before .loop .inv .0) (c .next .ensures) (c .before .before .before .before .before .before .before .before .before .before .before .pre .0)
 
 is-inside-requires : tie.Need-is-inside-requires Inv-loop μ-loop
-is-inside-requires c κs = let z = three-in-range way-on (c .before .before .before .loop .inv .0) (c .before .next .ensures) (c .before .before .before .before .before .before .before .before .before .before .pre .0) (c .before .before .before .loop .inv .1) (c .point-of3 .ensures) in (z .0, z .2, z .1)
+is-inside-requires c κs = let z = three-in-range way-on (c .before .before .before .before .before .loop .inv .0) (c .before .next .ensures) (c .before .before .before .before .before .before .before .before .before .before .before .before .pre .0) (c .before .before .before .before .before .loop .inv .1) (c .point-of3 .ensures) in (z .0, z .2, z .1)
 
 with-kink-requires : tie.Need-with-kink-requires Inv-loop μ-loop
 with-kink-requires c κs =
-    let s = c .before .before .before .before .before .before .before .before .before .before .before .args in
-    walk-runs (c .before .before .before .before .loop .inv .0) (c .before .before .before .before .before .before .before .before .before .before .before .pre .0)
-    (ap not (c .is-inside .ensures) ∙ kink-is (s .run .from .size) (points (now (s .x)) (now (s .y))) (now (s .ring)) (c .before .before .before .before .loop .inv .0) (c .before .before .next .ensures) (c .before .before .before .before .loop .inv .1) (c .before .point-of3 .ensures))
-    (c .before .before .before .before .before .before .before .before .before .before .before .pre .2) (c .before .before .before .before .before .before .before .before .before .before .before .pre .3)
+    let s = c .before .before .before .before .before .before .before .before .before .before .before .before .before .args in
+    walk-runs (c .before .before .before .before .before .before .loop .inv .0) (c .before .before .before .before .before .before .before .before .before .before .before .before .before .pre .0)
+    (ap not (c .is-inside .ensures) ∙ kink-is (s .run .from .size) (points (now (s .x)) (now (s .y))) (now (s .ring)) (c .before .before .before .before .before .before .loop .inv .0) (c .before .before .next .ensures) (c .before .before .before .before .before .before .loop .inv .1) (c .before .point-of3 .ensures))
+    (c .before .before .before .before .before .before .before .before .before .before .before .before .before .pre .2) (c .before .before .before .before .before .before .before .before .before .before .before .before .before .pre .3)
 
 sub-left : tie.Need-sub-left Inv-loop μ-loop
-sub-left c = omega (arith, c .before .before .before .before .loop-test .taken)
+sub-left c = omega (arith, c .before .before .before .before .before .before .loop-test .taken)
 
 loop-less : tie.Need-loop-less Inv-loop μ-loop
-loop-less c = omega (arith, c .before .before .before .before .loop-test .taken)
+loop-less c = omega (arith, c .before .before .before .before .before .before .loop-test .taken)
 
 loop-again : tie.Need-loop-again Inv-loop μ-loop
 loop-again c =
-    let s = c .before .before .before .before .before .before .before .before .before .before .before .before .args in (
-      kink-goes (s .run .from .size) (points (now (s .x)) (now (s .y))) (now (s .ring)) (s .a) (s .b) (c .before .before .before .before .before .loop .inv .0) (c .before .before .before .before .loop-test .taken) (c .with-kink .ensures) (c .before .before .before .next .ensures),
-      carried-on way-on (c .before .before .before .before .before .loop .inv .0) (c .before .before .before .next .ensures) (c .before .before .before .before .before .loop .inv .1) (c .before .before .point-of3 .ensures),
+    let s = c .before .before .before .before .before .before .before .before .before .before .before .before .before .before .args in (
+      kink-goes (s .run .from .size) (points (now (s .x)) (now (s .y))) (now (s .ring)) (s .a) (s .b) (c .before .before .before .before .before .before .before .loop .inv .0) (c .before .before .before .before .before .before .loop-test .taken) (c .with-kink .ensures) (c .before .before .before .next .ensures),
+      carried-on way-on (c .before .before .before .before .before .before .before .loop .inv .0) (c .before .before .before .next .ensures) (c .before .before .before .before .before .before .before .loop .inv .1) (c .before .before .point-of3 .ensures),
     )
+
+-- after all points, and before that where no pair can be better
+returns-2 : tie.Need-returns-2 Inv-loop μ-loop
+returns-2 c =
+    let s = c .before .before .before .before .before .before .before .before .args in
+    let n = s .run .from .size in
+    let pt = points (now (s .x)) (now (s .y)) in
+    kinks-end n pt (now (s .ring)) (s .a) (s .b) (c .before .loop .inv .0) (c .loop-test .left)
+    ∙ all-points n pt (now (s .ring)) (runEdges n (s .a) (s .b)) (s .run) (s .start)
 
 returns : tie.Need-returns Inv-loop μ-loop
 returns c =
-    let s = c .before .before .before .before .before .before .before .before .args in
-    kinks-end (s .run .from .size) (points (now (s .x)) (now (s .y))) (now (s .ring)) (s .a) (s .b) (c .before .loop .inv .0) (c .loop-test .left)
-    ∙ ap (λ m. overKinks (s .run .from .size) (points (now (s .x)) (now (s .y))) (now (s .ring)) (runEdges (s .run .from .size) (s .a) (s .b)) (stretch (s .run .from .size) (s .run .from .id .0) m) (s .start)) (add-one (s .run .edges))
+    let s = c .before .before .before .before .before .before .before .before .before .before .args in
+    let n = s .run .from .size in
+    let pt = points (now (s .x)) (now (s .y)) in
+    kinks-stop n pt (now (s .ring)) (s .a) (s .b) (c .before .before .before .loop .inv .0) (c .if1 .taken)
+    ∙ all-points n pt (now (s .ring)) (runEdges n (s .a) (s .b)) (s .run) (s .start)
 
 pub with-run-spec : {M : Type 1} → statement M
 with-run-spec =
@@ -86,6 +96,7 @@ with-run-spec =
     point-of-requires-2
     add-left
     loop-holds
+    returns
     next-requires
     point-of-requires-3
     is-inside-requires
@@ -93,4 +104,4 @@ with-run-spec =
     sub-left
     loop-less
     loop-again
-    returns)
+    returns-2)
