@@ -68,6 +68,14 @@ module _ (n : ℕ) (pt : ℕ → Point) (r : List ℕ) where
   better-late k i [] b h = refl
   better-late k i (p ∷ ps) b h = rw (le-ltb i (b .passed) h) (better-late k (suc i) ps b (omega arith))
 
+  -- so none is better than a pair of the first edge
+  pub kinks-late : (ps ks : List ℕ) (b : Best) → b .passed ≤ 0 → overKinks n pt r ps ks b ≡ b
+  kinks-late ps [] b h = refl
+  kinks-late ps (k ∷ ks) b h = ap (overKinks n pt r ps ks) stays ∙ kinks-late ps ks b h
+    where
+      stays : withKink n pt r ps k b ≡ b
+      stays = both (true-or-false (kinkAt n pt r k)) (λ t. rw t (better-late k 0 ps b h)) (λ t. rw t)
+
   pub better-here : (k i p : ℕ) (ps : List ℕ) (b : Best) → i < b .passed → heldAt n pt r k p ≡ true → better n pt r k i (p ∷ ps) b ≡ pairOf k i p
   better-here k i p ps b h e = rw (lt-ltb i (b .passed) h, e)
 

@@ -1,16 +1,18 @@
 -- The search for a kink and an edge that holds it, step by step: along the edges of a run, over the points of two runs, and its end.
 use mathlib.Core.Path.{_≡_, refl, sym, _∙_, ap}
-use mathlib.Core.Bool.{Bool, true, false, _&&_, Bool·beq}
+use mathlib.Core.Bool.{Bool, true, false, not, _&&_, Bool·beq}
 use mathlib.Core.List.{List, [], _∷_, _++_, append-nil}
 use Prim.Native.Nat.{ℕ, zero, suc, min, _+_, _-_, _≤_, _<_}
 use native.Mathlib.Omega.{arith}
+use native.Mathlib.Numerals.{add-one}
 use lib.Dec.{eqb}
 use lib.ListN.{length, length-append}
 use borrow.Author.Tests.{eqb-true}
 use Rattle.algebra.specs.Cases.{both, true-or-false, le-cases, and-left, and-right}
 use Rattle.geometry.specs.Plane.{Point, ltP}
+use Rattle.geometry.specs.Segment.{inside}
 use Rattle.geometry.proofs.Points.{inside-is, ltP-not}
-use Rattle.polygon.specs.Ring.{next, stretch, IsRing}
+use Rattle.polygon.specs.Ring.{next, prev, stretch, IsRing}
 use Rattle.polygon.specs.Place.{position}
 use Rattle.polygon.specs.declared.position.Position.{Position}
 use Rattle.polygon.proofs.Positions.{next-lt}
@@ -26,7 +28,8 @@ use Rattle.moves.specs.declared.search.Best.{Best}
 use Rattle.moves.specs.declared.search.Mergable.{Mergable as Answer}
 use Rattle.moves.specs.declared.search.Mergable.the-variants.{Nothing}
 use Rattle.moves.proofs.RingWalk.{Walk, walk-sized, walk-steps}
-use Rattle.moves.proofs.BestPair.{kinks-append, better-late, better-here, better-on, better-append, best-found, search-twice}
+use Rattle.moves.proofs.Carried.{Carried, way-on, ahead}
+use Rattle.moves.proofs.BestPair.{kinks-append, better-late, kinks-late, better-here, better-on, better-append, best-found, search-twice}
 
 length-stretch : (n i k : ℕ) → length (stretch n i k) ≡ k
 length-stretch n i zero = refl
@@ -96,7 +99,15 @@ module _ (n : ℕ) (pt : ℕ → Point) (r : List ℕ) where
       let z : s .edges ≡ 0 + length (edgesOf n s) = omega (arith, edges-count s) in
       g ∙ (λ j. better n pt r k (z j) (edgesOf n t) (f j)) ∙ sym (better-append n pt r k 0 (edgesOf n s) (edgesOf n t) b) ∙ rw e
 
-  -- ---- over the points of a run
+  -- ---- over the points of a run: a point is a kink by those that are carried past it
+  pub kink-is : {A : Type 0} {go : ℕ → ℕ → A} {end : A} {p q : Position} {left : ℕ} → Walk n go end p left → q ≡ position (p .size) (next (p .size) (p .id .0)) →
+      {b h a : Point} → Carried prev n pt r (p .id .0) b h → a ≡ ptAt pt r (q .id .0) → not (inside b a h) ≡ kinkAt n pt r (p .id .0)
+  kink-is w e k f = let g = ahead way-on w e pt r f in λ t. not (inside (k .behind t) (g t) (k .here t))
+
+  -- its points, counted as the loop counts them
+  pub all-points : (ps : List ℕ) (s : Run) (b : Best) → overKinks n pt r ps (stretch n (s .from .id .0) (s .edges + 1)) b ≡ overKinks n pt r ps (pointsOf n s) b
+  all-points ps s b = ap (λ m. overKinks n pt r ps (stretch n (s .from .id .0) m) b) (add-one (s .edges))
+
   module _ (s t : Run) {b : Best} {end : Best} {q : Position} {left : ℕ} (w : Walk n (λ m i. overKinks n pt r (runEdges n s t) (stretch n i m) b) end q left) where
     pub kink-goes : 0 < left → {b' : Best} → b' ≡ withKink (q .size) pt r (runEdges (q .size) s t) (q .id .0) b → {q' : Position} → q' ≡ position (q .size) (next (q .size) (q .id .0)) →
         Walk n (λ m i. overKinks n pt r (runEdges n s t) (stretch n i m) b') end q' (left - 1)
@@ -104,6 +115,9 @@ module _ (n : ℕ) (pt : ℕ → Point) (r : List ℕ) where
         walk-steps w next f (next-lt n (q .id .0) (w .below))
         (ap (overKinks n pt r (runEdges n s t) (stretch n (next n (q .id .0)) (left - 1))) (walk-sized w (λ m. b' ≡ withKink m pt r (runEdges m s t) (q .id .0) b) e)
         ∙ sym (ap (λ m. overKinks n pt r (runEdges n s t) (stretch n (q .id .0) m) b) (let z : left ≡ suc (left - 1) = omega arith in z)))
+
+    pub kinks-stop : b .passed ≡ 0 → b ≡ end
+    kinks-stop h = sym (kinks-late n pt r (runEdges n s t) (stretch n (q .id .0) left) b (omega arith)) ∙ w .same
 
     pub kinks-end : left ≤ 0 → b ≡ end
     kinks-end h = sym (ap (λ m. overKinks n pt r (runEdges n s t) (stretch n (q .id .0) m) b) (let z : left ≡ 0 = omega arith in z)) ∙ w .same

@@ -1,6 +1,7 @@
 pub mod RingPositions
 pub mod Least
 pub mod RingWalk
+pub mod Carried
 pub mod RunSteps
 pub mod BestPair
 pub mod KinkSearch

@@ -5,18 +5,19 @@ use mathlib.Core.List.{List}
 use Prim.Native.Nat.{ℕ, zero, suc, _-_, _≤_, _<_}
 use native.Mathlib.Omega.{arith}
 use lib.IntN.{ℤ}
-use Rattle.geometry.specs.Plane.{Point}
+use Rattle.geometry.specs.Plane.{Point, collinear}
 use Rattle.polygon.specs.Ring.{next, prev, dist}
 use Rattle.polygon.specs.Place.{position}
 use Rattle.polygon.specs.declared.position.Position.{Position}
 use Rattle.polygon.proofs.Positions.{next-lt, prev-lt, dist-lt}
-use Rattle.machine.specs.Board.{straightLine}
+use Rattle.machine.specs.Board.{ptAt, straightLine}
 use Rattle.machine.specs.Search.{runBack, runOn}
 use Rattle.machine.proofs.SearchFits.{runBack-lt, runOn-lt}
 use Rattle.moves.specs.Walk.{RingOver, Both}
 use Rattle.moves.specs.Runs.{runFrom, RunIn}
 use Rattle.moves.specs.declared.extremes.Run.{Run}
-use Rattle.moves.proofs.RingWalk.{Walk, walk-sized, walk-steps}
+use Rattle.moves.proofs.RingWalk.{Walk, walk-steps}
+use Rattle.moves.proofs.Carried.{Carried, way-on, way-back, ahead}
 
 -- `go` takes a step past each collinear vertex
 pub record Steps (pt : ℕ → Point) (r : List ℕ) (n : ℕ) (step : ℕ → ℕ → ℕ) (go : ℕ → ℕ → ℕ) : Type 0 where
@@ -29,6 +30,15 @@ back-steps pt r n = record { within = prev-lt n; ends = λ i. refl; more = λ k 
 
 pub on-steps : (pt : ℕ → Point) (r : List ℕ) (n : ℕ) → Steps pt r n next (λ k i. runOn n pt k r i)
 on-steps pt r n = record { within = next-lt n; ends = λ i. refl; more = λ k i. refl }
+
+-- a vertex is collinear if the points that are carried past it are
+pub straight-back : {A : Type 0} {n : ℕ} {go : ℕ → ℕ → A} {end : A} {p q : Position} {left : ℕ} → Walk n go end p left → q ≡ position (p .size) (prev (p .size) (p .id .0)) →
+    {pt : ℕ → Point} {r : List ℕ} {b h a : Point} → Carried next n pt r (p .id .0) b h → a ≡ ptAt pt r (q .id .0) → collinear a h b ≡ straightLine n pt r (p .id .0)
+straight-back w e {pt} {r} k f = let g = ahead way-back w e pt r f in λ t. collinear (g t) (k .here t) (k .behind t)
+
+pub straight-on : {A : Type 0} {n : ℕ} {go : ℕ → ℕ → A} {end : A} {p q : Position} {left : ℕ} → Walk n go end p left → q ≡ position (p .size) (next (p .size) (p .id .0)) →
+    {pt : ℕ → Point} {r : List ℕ} {b h a : Point} → Carried prev n pt r (p .id .0) b h → a ≡ ptAt pt r (q .id .0) → collinear b h a ≡ straightLine n pt r (p .id .0)
+straight-on w e {pt} {r} k f = let g = ahead way-on w e pt r f in λ t. collinear (k .behind t) (k .here t) (g t)
 
 module _ {pt : ℕ → Point} {r : List ℕ} {n : ℕ} {step : ℕ → ℕ → ℕ} {go : ℕ → ℕ → ℕ} (s : Steps pt r n step go) where
   stops-at : (k i : ℕ) → straightLine n pt r i ≡ false → go k i ≡ i
@@ -44,12 +54,12 @@ module _ {pt : ℕ → Point} {r : List ℕ} {n : ℕ} {step : ℕ → ℕ → �
     there e = let f : p .id .0 ≡ end = sym e ∙ w .same in λ t. record { id = record { 0 = f t }; size = w .size t }
 
     -- at a corner the run ends
-    pub run-stops : straightLine (p .size) pt r (p .id .0) ≡ false → p ≡ position n end
-    run-stops e = there (stops-at left (p .id .0) (walk-sized w (λ m. straightLine m pt r (p .id .0) ≡ false) e))
+    pub run-stops : straightLine n pt r (p .id .0) ≡ false → p ≡ position n end
+    run-stops e = there (stops-at left (p .id .0) e)
 
-    pub run-goes : 0 < left → straightLine (p .size) pt r (p .id .0) ≡ true → {q : Position} → q ≡ position (p .size) (step (p .size) (p .id .0)) → Walk n go end q (left - 1)
+    pub run-goes : 0 < left → straightLine n pt r (p .id .0) ≡ true → {q : Position} → q ≡ position (p .size) (step (p .size) (p .id .0)) → Walk n go end q (left - 1)
     run-goes h e f =
-        walk-steps w step f (s .within (p .id .0) (w .below)) (goes-past left (p .id .0) h (walk-sized w (λ m. straightLine m pt r (p .id .0) ≡ true) e))
+        walk-steps w step f (s .within (p .id .0) (w .below)) (goes-past left (p .id .0) h e)
 
     -- so it does after all its steps
     pub run-ends : left ≤ 0 → p ≡ position n end

@@ -1,13 +1,16 @@
 // The run of an edge (two_opt.rs, `linear_extremes`): it stretches back and on past collinear vertices to a corner.
 ghost use mathlib.Core.Path.{_≡_};
 ghost use Prim.Native.Nat.{_<_};
-ghost use Rattle.geometry.specs.Lent.{points};
+ghost use Rattle.geometry.specs.Plane.{collinear};
+ghost use Rattle.geometry.specs.Lent.{spot, points, InRange};
 ghost use Rattle.polygon.specs.Place.{position};
 ghost use Rattle.polygon.specs.Ring.{dist};
 ghost use Rattle.machine.specs.Search.{runBack, runOn};
 ghost use Rattle.moves.specs.Walk.{RingOver};
 ghost use Rattle.moves.specs.Runs.{runFrom};
-use super::vertex::is_colinear;
+use super::vertex::point_of;
+use geometry::orientation::turn_of;
+use geometry::point::Point;
 use polygon::position::Position;
 
 // A stretch of the ring: where it starts, and how many edges it has.
@@ -16,18 +19,32 @@ pub struct Run {
     pub edges: u16,
 }
 
+// Three points within the limits lie on one line.
+fn on_line(a: Point, b: Point, c: Point) -> bool
+    requires { ⌜ InRange (spot a) × InRange (spot b) × InRange (spot c) ⌝ }
+    ensures { λ r. ⌜ r ≡ collinear (spot a) (spot b) (spot c) ⌝ }
+{
+    turn_of(a, b, c) == 0
+}
+
 // Back from a position to a corner. A walk of as many steps as there are points has met one.
 fn run_back(x: &[i32], y: &[i32], ring: &[u16], start: Position) -> Position
     requires { ⌜ RingOver (start .size) (now x) (now y) (now ring) × (start .id .0 < start .size) ⌝ }
     ensures { λ r. ⌜ r ≡ position (start .size) (runBack (start .size) (points (now (x .entry)) (now (y .entry))) (start .size) (now (ring .entry)) (start .id .0)) ⌝ }
 {
     let mut at = start;
+    let mut after = point_of(x, y, ring, at.next());
+    let mut here = point_of(x, y, ring, at);
     let mut left = start.size;
     while left > 0 {
-        if !is_colinear(x, y, ring, at) {
+        let prev = at.prev();
+        let before = point_of(x, y, ring, prev);
+        if !on_line(before, here, after) {
             return at;
         }
-        at = at.prev();
+        after = here;
+        here = before;
+        at = prev;
         left -= 1;
     }
     at
@@ -39,12 +56,18 @@ fn run_on(x: &[i32], y: &[i32], ring: &[u16], start: Position) -> Position
     ensures { λ r. ⌜ r ≡ position (start .size) (runOn (start .size) (points (now (x .entry)) (now (y .entry))) (start .size) (now (ring .entry)) (start .id .0)) ⌝ }
 {
     let mut at = start;
+    let mut before = point_of(x, y, ring, at.prev());
+    let mut here = point_of(x, y, ring, at);
     let mut left = start.size;
     while left > 0 {
-        if !is_colinear(x, y, ring, at) {
+        let next = at.next();
+        let after = point_of(x, y, ring, next);
+        if !on_line(before, here, after) {
             return at;
         }
-        at = at.next();
+        before = here;
+        here = after;
+        at = next;
         left -= 1;
     }
     at

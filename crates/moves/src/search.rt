@@ -9,7 +9,7 @@ ghost use lib.Dec.{eqb};
 ghost use Rattle.geometry.specs.Plane.{ltP};
 ghost use Rattle.geometry.specs.Lent.{points};
 ghost use Rattle.polygon.specs.Ring.{next};
-ghost use Rattle.machine.specs.Board.{ptAt};
+ghost use Rattle.machine.specs.Board.{ptAt, kinkAt};
 ghost use Rattle.machine.specs.Search.{heldAt, searchEdges, kinkAndEdge};
 ghost use Rattle.moves.specs.Walk.{RingOver, Both};
 ghost use Rattle.moves.specs.Runs.{RunIn, mergableOf, pointsOf, edgesOf, runPoints, runEdges};
@@ -17,8 +17,9 @@ ghost use Rattle.moves.specs.Best.{better, withKink, overKinks};
 use super::extremes::Run;
 use super::extremes::linear_extremes;
 use super::vertex::holds;
-use super::vertex::is_kink;
 use super::vertex::number_at;
+use super::vertex::point_of;
+use geometry::line_segment::is_inside;
 use geometry::point::less_at;
 use polygon::position::Position;
 use polygon::position::PositionId;
@@ -103,12 +104,21 @@ fn better_on_run(
     best
 }
 
-// The best pair with one point more, if that is a kink.
-fn with_kink(x: &[i32], y: &[i32], ring: &[u16], kink: Position, a: Run, b: Run, best: Best) -> Best
-    requires { ⌜ RingOver (kink .size) (now x) (now y) (now ring) × (kink .id .0 < kink .size) × RunIn (kink .size) a × RunIn (kink .size) b ⌝ }
+// The best pair with one point more, which counts if it is a kink.
+fn with_kink(
+    x: &[i32],
+    y: &[i32],
+    ring: &[u16],
+    kink: Position,
+    counts: bool,
+    a: Run,
+    b: Run,
+    best: Best,
+) -> Best
+    requires { ⌜ RingOver (kink .size) (now x) (now y) (now ring) × (kink .id .0 < kink .size) × (counts ≡ kinkAt (kink .size) (points (now x) (now y)) (now ring) (kink .id .0)) × RunIn (kink .size) a × RunIn (kink .size) b ⌝ }
     ensures { λ r. ⌜ r ≡ withKink (kink .size) (points (now (x .entry)) (now (y .entry))) (now (ring .entry)) (runEdges (kink .size) a b) (kink .id .0) best ⌝ }
 {
-    if !is_kink(x, y, ring, kink) {
+    if !counts {
         return best;
     }
     let of_a = better_on_run(x, y, ring, kink, a, 0, best);
@@ -122,10 +132,22 @@ fn with_run(x: &[i32], y: &[i32], ring: &[u16], run: Run, a: Run, b: Run, start:
 {
     let mut best = start;
     let mut at = run.from;
+    let mut before = point_of(x, y, ring, at.prev());
+    let mut here = point_of(x, y, ring, at);
     let mut left = run.edges + 1;
     while left > 0 {
-        best = with_kink(x, y, ring, at, a, b, best);
-        at = at.next();
+        // No pair is better than one of the first edge.
+        if best.passed == 0 {
+            return best;
+        }
+        let next = at.next();
+        let after = point_of(x, y, ring, next);
+        // A kink would shorten the loop if it were taken out: a corner or a turning back. It is not strictly between its neighbours on a line.
+        let counts = !is_inside(before, after, here);
+        best = with_kink(x, y, ring, at, counts, a, b, best);
+        before = here;
+        here = after;
+        at = next;
         left -= 1;
     }
     best

@@ -1,14 +1,16 @@
-// What stands at a ring position: how the ring turns there, and whether it is a kink (polygon.rs, `Cursor`).
+// What stands at a ring position, and how the ring turns there (polygon.rs, `Cursor`).
 ghost use mathlib.Core.Path.{_≡_};
 ghost use Prim.Native.Nat.{_<_};
-ghost use Rattle.geometry.specs.Lent.{points};
+ghost use Rattle.geometry.specs.Lent.{spot, points};
 ghost use Rattle.polygon.specs.Ring.{IsRing, at as entry, next, prev};
-ghost use Rattle.machine.specs.Board.{turnAt, straightLine, kinkAt};
+ghost use Rattle.machine.specs.Board.{ptAt, turnAt, straightLine};
 ghost use Rattle.machine.specs.Search.{heldAt};
 ghost use Rattle.moves.specs.Walk.{RingOver, Both};
 use cursor::point_after;
 use geometry::line_segment::inside_at;
 use geometry::orientation::turn_at;
+use geometry::point::Point;
+use geometry::point::point_at;
 use polygon::polygon::position_to_point_id;
 use polygon::position::Position;
 
@@ -21,7 +23,15 @@ pub fn number_at(ring: &[u16], at: Position) -> usize
     position_to_point_id(ring, id).0 as usize
 }
 
-// That of the point before it.
+// The point itself: a walk along the ring reads each point once and carries it on.
+pub fn point_of(x: &[i32], y: &[i32], ring: &[u16], at: Position) -> Point
+    requires { ⌜ RingOver (at .size) (now x) (now y) (now ring) × (at .id .0 < at .size) ⌝ }
+    ensures { λ r. ⌜ spot r ≡ ptAt (points (now (x .entry)) (now (y .entry))) (now (ring .entry)) (at .id .0) ⌝ }
+{
+    point_at(x, y, number_at(ring, at))
+}
+
+// The number of the point before a position.
 fn number_before(ring: &[u16], at: Position) -> usize
     requires { ⌜ IsRing (at .size) (now ring) × (at .id .0 < at .size) ⌝ }
     ensures { λ r. ⌜ r ≡ entry (now (ring .entry)) (prev (at .size) (at .id .0)) ⌝ }
@@ -54,17 +64,6 @@ pub fn is_colinear(x: &[i32], y: &[i32], ring: &[u16], at: Position) -> bool
     ensures { λ r. ⌜ r ≡ straightLine (at .size) (points (now (x .entry)) (now (y .entry))) (now (ring .entry)) (at .id .0) ⌝ }
 {
     orientation(x, y, ring, at) == 0
-}
-
-// A kink would shorten the loop if it were taken out: a corner or a turning back. It is not strictly between its neighbours on a line.
-pub fn is_kink(x: &[i32], y: &[i32], ring: &[u16], at: Position) -> bool
-    requires { ⌜ RingOver (at .size) (now x) (now y) (now ring) × (at .id .0 < at .size) ⌝ }
-    ensures { λ r. ⌜ r ≡ kinkAt (at .size) (points (now (x .entry)) (now (y .entry))) (now (ring .entry)) (at .id .0) ⌝ }
-{
-    let before = number_before(ring, at);
-    let after = number_after(ring, at);
-    let here = number_at(ring, at);
-    !inside_at(x, y, before, after, here)
 }
 
 // The edge that starts at `edge` holds the point at `kink` strictly inside.

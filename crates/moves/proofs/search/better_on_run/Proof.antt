@@ -5,9 +5,10 @@ use mathlib.Core.Path.{_≡_, refl, sym, _∙_, ap}
 use denote.Ref.{now}
 use Rattle.geometry.specs.Plane.{ltP}
 use Rattle.geometry.specs.Lent.{points}
+use Rattle.polygon.specs.Ring.{next}
 use Rattle.machine.specs.Board.{ptAt}
 use Rattle.moves.proofs.RingPositions.{at-id}
-use Rattle.moves.proofs.RingWalk.{Walk, walk-within, walk-beside, walk-next, next-beside}
+use Rattle.moves.proofs.RingWalk.{Walk, walk-within, walk-beside, walk-to, next-beside}
 use Rattle.moves.proofs.RunSteps.{starts-beside}
 use Rattle.moves.proofs.KinkSearch.{below-least, looking, whole-run, pair-here, pair-goes, pair-ends}
 use Rattle.moves.proofs.search.better_on_run.Statement.{statement}
@@ -43,7 +44,7 @@ holds-between-requires : tie.Need-holds-between-requires Inv-loop μ-loop
 holds-between-requires c κs =
     let s = c .before .before .before .before .before .before .before .before .before .args in
     let pt = points (now (s .x)) (now (s .y)) in
-    (c .before .before .before .before .before .before .before .before .before .pre .0, walk-beside (c .before .before .before .loop .inv .0) (c .before .before .before .before .before .before .before .before .before .pre .1), c .before .before .before .loop .inv .1, c .is-below2 .ensures ∙ ap (λ i. ltP (ptAt pt (now (s .ring)) i) (ptAt pt (now (s .ring)) (s .kink .id .0))) (at-id (walk-next (c .before .before .before .loop .inv .0) (c .before .next .ensures))))
+    (c .before .before .before .before .before .before .before .before .before .pre .0, walk-beside (c .before .before .before .loop .inv .0) (c .before .before .before .before .before .before .before .before .before .pre .1), c .before .before .before .loop .inv .1, c .is-below2 .ensures ∙ ap (λ i. ltP (ptAt pt (now (s .ring)) i) (ptAt pt (now (s .ring)) (s .kink .id .0))) (at-id (walk-to (c .before .before .before .loop .inv .0) next (c .before .next .ensures))))
 
 returns : tie.Need-returns Inv-loop μ-loop
 returns c =

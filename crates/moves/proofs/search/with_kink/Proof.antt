@@ -9,13 +9,10 @@ use Rattle.moves.proofs.KinkSearch.{best-stays, best-of-both}
 use Rattle.moves.proofs.search.with_kink.Statement.{statement}
 use Rattle.moves.proofs.search.with_kink.Tie as tie
 
-is-kink-requires : tie.Need-is-kink-requires
-is-kink-requires c κs = search needs
-
 returns : tie.Need-returns
 returns c =
-    let s = c .before .before .before .args in
-    best-stays (s .kink .size) (points (now (s .x)) (now (s .y))) (now (s .ring)) (runEdges (s .kink .size) (s .a) (s .b)) (s .kink .id .0) (s .best) (sym (c .before .is-kink .ensures) ∙ not-true _ (c .if1 .taken))
+    let s = c .before .before .args in
+    best-stays (s .kink .size) (points (now (s .x)) (now (s .y))) (now (s .ring)) (runEdges (s .kink .size) (s .a) (s .b)) (s .kink .id .0) (s .best) (sym (c .before .before .pre .2) ∙ not-true _ (c .if1 .taken))
 
 better-on-run-requires : tie.Need-better-on-run-requires
 better-on-run-requires c κs = search needs
@@ -25,10 +22,10 @@ better-on-run-requires-2 c κs = search needs
 
 returns-2 : tie.Need-returns-2
 returns-2 c =
-    let s = c .before .before .before .before .before .args in
-    best-of-both (s .kink .size) (points (now (s .x)) (now (s .y))) (now (s .ring)) (s .a) (s .b) (s .kink .id .0) (s .best) (sym (c .before .before .before .is-kink .ensures) ∙ not-false _ (c .before .before .if1 .left)) (c .before .better-on-run .ensures) (c .better-on-run2 .ensures)
+    let s = c .before .before .before .before .args in
+    best-of-both (s .kink .size) (points (now (s .x)) (now (s .y))) (now (s .ring)) (s .a) (s .b) (s .kink .id .0) (s .best) (sym (c .before .before .before .before .pre .2) ∙ not-false _ (c .before .before .if1 .left)) (c .before .better-on-run .ensures) (c .better-on-run2 .ensures)
 
 pub with-kink-spec : {M : Type 1} → statement M
 with-kink-spec =
     tie.close
-    (tie.spec is-kink-requires returns better-on-run-requires better-on-run-requires-2 returns-2)
+    (tie.spec returns better-on-run-requires better-on-run-requires-2 returns-2)
