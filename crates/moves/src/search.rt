@@ -1,7 +1,7 @@
 // The search of a hoist (two_opt.rs, in `untangle`): of the edges of two runs, in order, the first that holds a kink of them, and the first such kink.
 //
-// The original goes from edge to edge, and for each over all the points. Here each point is asked once whether it is a kink, and is then looked for
-// only among the edges that come before the best one so far: an edge that comes later can be no answer.
+// The original collects the kinks, and goes from edge to edge, for each over all of them. Here each point is asked once whether it is a kink, and is then
+// looked for only among the edges that come before the best one so far: an edge that comes later can be no answer.
 ghost use mathlib.Core.Path.{_≡_};
 ghost use mathlib.Core.Bool.{_&&_};
 ghost use Prim.Native.Nat.{min, _<_};
