@@ -134,10 +134,10 @@ module _ (n : ℕ) (e0 e1 : Edge) (p : Pool) (s : ℕ) (ok : PushOk n e0 e1 p) (
         → LinkOk n e1 s (v .min0) (v .max0) h (p .links .next .x1) z
     link-ok-2 eh ez = rw (eh, ez, ev, ey) link-linked
 
-  -- The end that each edge is of the new record is known without reading its edges back.
   slot-some : s ≢ none
   slot-some q = omega (arith, hs, q, cap-small (ok .good .small))
 
+  -- The new record's first edge is its end 0, the other its end 1: the code need not read back which end is meant.
   ends-first : (w : ℕ) (x : Ends) → setEnd s e0 w (putEdges s e0 e1 (p .edges) .min0) (putEdges s e0 e1 (p .edges) .max0) x ≡ ends (set (x .x0) s w) (x .x1)
   unfolding setEnd putEdges
   ends-first w x =
@@ -151,7 +151,7 @@ module _ (n : ℕ) (e0 e1 : Edge) (p : Pool) (s : ℕ) (ok : PushOk n e0 e1 p) (
       let d : eqE e1 e0 ≡ false = eqE-sym e1 e0 ∙ ok .differ in
       rw (ne-eqb s none slot-some, getD-set-same (p .edges .min0) s (e0 .lo) 0 (lt-of-lt-of-le hs (z .in-min0)), getD-set-same (p .edges .max0) s (e0 .hi) 0 (lt-of-lt-of-le hs (z .in-max0)), d)
 
-  -- each `next` of the new record is written once, and not cleared before
+  -- Its `next` in each end is written once: clearing it before changes nothing.
   pub next-once : (h0 h1 : ℕ) → ends (set (p .links .next .x0) s h0) (set (p .links .next .x1) s h1)
       ≡ setEnd s e1 h1 (putEdges s e0 e1 (p .edges) .min0) (putEdges s e0 e1 (p .edges) .max0)
       (setEnd s e0 h0 (putEdges s e0 e1 (p .edges) .min0) (putEdges s e0 e1 (p .edges) .max0) (clearEnds s (p .links .next)))
@@ -255,10 +255,8 @@ module _ (n : ℕ) (e0 e1 : Edge) (p : Pool) (ok : PushOk n e0 e1 p) where
       → o ≡ densePush (t .slot .0) (p .counts .live) (p .order)
       → v ≡ putEdges (t .slot .0) e0 e1 (p .edges)
       → y0 ≡ clearEnds (t .slot .0) (p .links .prev)
-      → (h1 ≡ set (p .links .heads) (headPlace n e0) (t .slot .0)) × (n0 ≡ set (p .links .next .x0) (t .slot .0) (headAt n e0 (p .links .heads)))
-      × (y1 ≡ setEnd (headAt n e0 (p .links .heads)) e0 (t .slot .0) (v .min0) (v .max0) y0)
-      → (h2 ≡ set h1 (headPlace n e1) (t .slot .0)) × (n1 ≡ set (p .links .next .x1) (t .slot .0) (headAt n e1 h1))
-      × (y2 ≡ setEnd (headAt n e1 h1) e1 (t .slot .0) (v .min0) (v .max0) y1)
+      → (h1 ≡ set (p .links .heads) (headPlace n e0) (t .slot .0)) × (n0 ≡ set (p .links .next .x0) (t .slot .0) (headAt n e0 (p .links .heads))) × (y1 ≡ setEnd (headAt n e0 (p .links .heads)) e0 (t .slot .0) (v .min0) (v .max0) y0)
+      → (h2 ≡ set h1 (headPlace n e1) (t .slot .0)) × (n1 ≡ set (p .links .next .x1) (t .slot .0) (headAt n e1 h1)) × (y2 ≡ setEnd (headAt n e1 h1) e1 (t .slot .0) (v .min0) (v .max0) y1)
       → _≡_ {A = Pool} (record { edges = v; links = record { heads = h2; next = ends n0 n1; prev = y2 }; order = o; free = p .free; counts = t .counts }) (poolPush n e0 e1 p)
   unfolding poolPush linkFront
   push-steps et eo ev ey l1 l2 =
