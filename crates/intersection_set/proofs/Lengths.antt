@@ -8,13 +8,14 @@ use native.Mathlib.Nat.{mul-le-mul, lt-of-lt-of-le}
 use native.Mathlib.Omega.{arith}
 use lib.Dec.{eqb}
 use lib.ListN.{length, getD, set, length-set}
-use lib.Seq.{getD-set-same, getD-set-other}
+use lib.Seq.{getD-set-same, getD-set-other, set-set}
 use borrow.Author.Tests.{eqb-true, eqb-false, eq-eqb, ne-eqb}
 use Rattle.algebra.specs.Cases.{both, eq-cases}
 use Rattle.index_edge.specs.Edge.{Edge, eqE}
+use Rattle.index_edge.proofs.Edges.{eqE-refl, eqE-sym}
 use Rattle.intersection_set.specs.Lists.{none, headPlace}
-use Rattle.intersection_set.specs.Pool.{Ends, ends, Edges, Links, Order, Pool, countsOf, takeSlot, densePush, denseRemove, edgeAt, end0, end1, setEnd, headAt, linkFront, setHead, unlinkFrom, putEdges, clearEnds, clearLinks, poolPush, poolRemove, poolRemoveAll}
-use Rattle.intersection_set.specs.Within.{Proper, TakeOk, AppendOk, EndOk, HeadOk, LinkOk, UnlinkOk, InEdges, InLinks, Sized, Good, PushOk, RemoveOk, Drained}
+use Rattle.intersection_set.specs.Pool.{Ends, ends, Edges, Links, Order, Pool, countsOf, takeSlot, densePush, denseRemove, edgeAt, end0, end1, setEnd, headAt, linkFront, setHead, unlinkFrom, putEdges, clearEnds, poolPush, poolRemove, poolRemoveAll}
+use Rattle.intersection_set.specs.Within.{Proper, TakeOk, AppendOk, EndOk, HeadOk, LinkOk, UnlinkOk, InEdges, Sized, Good, PushOk, RemoveOk, Drained}
 use Rattle.intersection_set.specs.declared.utils.Counts.{Counts}
 use Rattle.intersection_set.specs.declared.utils.Taken.{Taken}
 use Rattle.intersection_set.proofs.HeadPlaces.{placed, head-below}
@@ -94,45 +95,69 @@ module _ (n : ℕ) (e0 e1 : Edge) (p : Pool) (s : ℕ) (ok : PushOk n e0 e1 p) (
       let z = ok .good .sizes in
       record { in-min0 = lt-of-lt-of-le hs (z .in-min0); in-max0 = lt-of-lt-of-le hs (z .in-max0); in-min1 = lt-of-lt-of-le hs (z .in-min1); in-max1 = lt-of-lt-of-le hs (z .in-max1) }
 
-  pub links-ok : InLinks s (p .links .next) (p .links .prev)
-  links-ok =
-      let z = ok .good .sizes in
-      record { in-next0 = lt-of-lt-of-le hs (z .in-next0); in-prev0 = lt-of-lt-of-le hs (z .in-prev0); in-next1 = lt-of-lt-of-le hs (z .in-next1); in-prev1 = lt-of-lt-of-le hs (z .in-prev1) }
+  pub prevs-ok : (s < length (p .links .prev .x0)) × (s < length (p .links .prev .x1))
+  prevs-ok = (lt-of-lt-of-le hs (ok .good .sizes .in-prev0), lt-of-lt-of-le hs (ok .good .sizes .in-prev1))
 
   -- the first link may be made
-  link-written : LinkOk n e0 s (putEdges s e0 e1 (p .edges) .min0) (putEdges s e0 e1 (p .edges) .max0) (clearLinks s (p .links))
+  link-written : LinkOk n e0 s (putEdges s e0 e1 (p .edges) .min0) (putEdges s e0 e1 (p .edges) .max0) (p .links .heads) (p .links .next .x0) (clearEnds s (p .links .prev))
   unfolding putEdges clearEnds
   link-written =
       let g = ok .good in
       let z = g .sizes in
       record {
         head = head-ok (g .small) (ok .edge0) (z .in-heads);
-        first = end-ok s (n * (n - 1)) (λ _. hs) (simp length-set (z .in-min0)) (simp length-set (z .in-max0)) (simp length-set (z .in-next0)) (simp length-set (z .in-next1));
-        second = end-ok _ (n * (n - 1)) (g .head e0 (ok .edge0)) (simp length-set (z .in-min0)) (simp length-set (z .in-max0)) (simp length-set (z .in-prev0)) (simp length-set (z .in-prev1));
+        in-next = lt-of-lt-of-le hs (z .in-next0);
+        old = end-ok _ (n * (n - 1)) (g .head e0 (ok .edge0)) (simp length-set (z .in-min0)) (simp length-set (z .in-max0)) (simp length-set (z .in-prev0)) (simp length-set (z .in-prev1));
       }
 
   -- and then the second
-  link-linked : LinkOk n e1 s (putEdges s e0 e1 (p .edges) .min0) (putEdges s e0 e1 (p .edges) .max0)
-      (linkFront n e0 s (putEdges s e0 e1 (p .edges) .min0) (putEdges s e0 e1 (p .edges) .max0) (clearLinks s (p .links)))
-  unfolding putEdges clearEnds linkFront
+  link-linked : LinkOk n e1 s (putEdges s e0 e1 (p .edges) .min0) (putEdges s e0 e1 (p .edges) .max0) (set (p .links .heads) (headPlace n e0) s) (p .links .next .x1)
+      (setEnd (headAt n e0 (p .links .heads)) e0 s (putEdges s e0 e1 (p .edges) .min0) (putEdges s e0 e1 (p .edges) .max0) (clearEnds s (p .links .prev)))
+  unfolding putEdges clearEnds
   link-linked =
       let g = ok .good in
       let z = g .sizes in
       let h0 = lt-of-lt-of-le (place-lt n e0 (ok .edge0)) (z .in-heads) in
       record {
         head = head-ok (g .small) (ok .edge1) (simp length-set (z .in-heads));
-        first = end-ok s (n * (n - 1)) (λ _. hs) (simp length-set (z .in-min0)) (simp length-set (z .in-max0)) (simp (len-x0, length-set) (z .in-next0)) (simp (len-x1, length-set) (z .in-next1));
-        second = end-ok _ (n * (n - 1)) (head-set (p .links .heads) (headPlace n e0) (headPlace n e1) s (n * (n - 1)) h0 hs (g .head e1 (ok .edge1))) (simp length-set (z .in-min0)) (simp length-set (z .in-max0))
+        in-next = lt-of-lt-of-le hs (z .in-next1);
+        old = end-ok _ (n * (n - 1)) (head-set (p .links .heads) (headPlace n e0) (headPlace n e1) s (n * (n - 1)) h0 hs (g .head e1 (ok .edge1))) (simp length-set (z .in-min0)) (simp length-set (z .in-max0))
             (simp (len-x0, length-set) (z .in-prev0)) (simp (len-x1, length-set) (z .in-prev1));
       }
 
   -- the same of the lists that the code's steps leave
-  module _ {v : Edges} {x y : Ends} (ev : v ≡ putEdges s e0 e1 (p .edges)) (ex : x ≡ clearEnds s (p .links .next)) (ey : y ≡ clearEnds s (p .links .prev)) where
-    pub link-ok : LinkOk n e0 s (v .min0) (v .max0) (record { heads = p .links .heads; next = x; prev = y })
-    link-ok = rw (ev, ex, ey) link-written
+  module _ {v : Edges} {y : Ends} (ev : v ≡ putEdges s e0 e1 (p .edges)) (ey : y ≡ clearEnds s (p .links .prev)) where
+    pub link-ok : LinkOk n e0 s (v .min0) (v .max0) (p .links .heads) (p .links .next .x0) y
+    link-ok = rw (ev, ey) link-written
 
-    pub link-ok-2 : {l : Links} → l ≡ linkFront n e0 s (v .min0) (v .max0) (record { heads = p .links .heads; next = x; prev = y }) → LinkOk n e1 s (v .min0) (v .max0) l
-    link-ok-2 el = rw (el, ev, ex, ey) link-linked
+    pub link-ok-2 : {h : List ℕ} {z : Ends} → h ≡ set (p .links .heads) (headPlace n e0) s → z ≡ setEnd (headAt n e0 (p .links .heads)) e0 s (v .min0) (v .max0) y
+        → LinkOk n e1 s (v .min0) (v .max0) h (p .links .next .x1) z
+    link-ok-2 eh ez = rw (eh, ez, ev, ey) link-linked
+
+  slot-some : s ≢ none
+  slot-some q = omega (arith, hs, q, cap-small (ok .good .small))
+
+  -- The new record's first edge is its end 0, the other its end 1: the code need not read back which end is meant.
+  ends-first : (w : ℕ) (x : Ends) → setEnd s e0 w (putEdges s e0 e1 (p .edges) .min0) (putEdges s e0 e1 (p .edges) .max0) x ≡ ends (set (x .x0) s w) (x .x1)
+  unfolding setEnd putEdges
+  ends-first w x =
+      let z = ok .good .sizes in
+      rw (ne-eqb s none slot-some, getD-set-same (p .edges .min0) s (e0 .lo) 0 (lt-of-lt-of-le hs (z .in-min0)), getD-set-same (p .edges .max0) s (e0 .hi) 0 (lt-of-lt-of-le hs (z .in-max0)), eqE-refl e0)
+
+  ends-second : (w : ℕ) (x : Ends) → setEnd s e1 w (putEdges s e0 e1 (p .edges) .min0) (putEdges s e0 e1 (p .edges) .max0) x ≡ ends (x .x0) (set (x .x1) s w)
+  unfolding setEnd putEdges
+  ends-second w x =
+      let z = ok .good .sizes in
+      let d : eqE e1 e0 ≡ false = eqE-sym e1 e0 ∙ ok .differ in
+      rw (ne-eqb s none slot-some, getD-set-same (p .edges .min0) s (e0 .lo) 0 (lt-of-lt-of-le hs (z .in-min0)), getD-set-same (p .edges .max0) s (e0 .hi) 0 (lt-of-lt-of-le hs (z .in-max0)), d)
+
+  -- Its `next` in each end is written once: clearing it before changes nothing.
+  pub next-once : (h0 h1 : ℕ) → ends (set (p .links .next .x0) s h0) (set (p .links .next .x1) s h1)
+      ≡ setEnd s e1 h1 (putEdges s e0 e1 (p .edges) .min0) (putEdges s e0 e1 (p .edges) .max0)
+      (setEnd s e0 h0 (putEdges s e0 e1 (p .edges) .min0) (putEdges s e0 e1 (p .edges) .max0) (clearEnds s (p .links .next)))
+  unfolding clearEnds
+  next-once h0 h1 =
+      rw (ends-first h0 (clearEnds s (p .links .next)), ends-second h1 (ends (set (set (p .links .next .x0) s none) s h0) (set (p .links .next .x1) s none)), set-set (p .links .next .x0) s none h0, set-set (p .links .next .x1) s none h1)
 
 -- ---- two pools whose lists are as long as each other
 pub record SameSize (p q : Pool) : Type 0 where
@@ -224,17 +249,19 @@ sizes-remove n s p =
     }
 
 -- ---- the steps of the code, put together
-pub push-steps : (n : ℕ) (e0 e1 : Edge) (p : Pool) {t : Taken} {o : Order} {v : Edges} {x y : Ends} {l1 l2 : Links}
-    → t ≡ takeSlot (p .counts) (p .free)
-    → o ≡ densePush (t .slot .0) (p .counts .live) (p .order)
-    → v ≡ putEdges (t .slot .0) e0 e1 (p .edges)
-    → x ≡ clearEnds (t .slot .0) (p .links .next)
-    → y ≡ clearEnds (t .slot .0) (p .links .prev)
-    → l1 ≡ linkFront n e0 (t .slot .0) (v .min0) (v .max0) (record { heads = p .links .heads; next = x; prev = y })
-    → l2 ≡ linkFront n e1 (t .slot .0) (v .min0) (v .max0) l1
-    → _≡_ {A = Pool} (record { edges = v; links = l2; order = o; free = p .free; counts = t .counts }) (poolPush n e0 e1 p)
-unfolding poolPush
-push-steps n e0 e1 p et eo ev ex ey el1 el2 = rw (el2, el1, ex, ey, eo, ev, et)
+module _ (n : ℕ) (e0 e1 : Edge) (p : Pool) (ok : PushOk n e0 e1 p) where
+  pub push-steps : {t : Taken} {o : Order} {v : Edges} {h1 h2 n0 n1 : List ℕ} {y0 y1 y2 : Ends}
+      → t ≡ takeSlot (p .counts) (p .free)
+      → o ≡ densePush (t .slot .0) (p .counts .live) (p .order)
+      → v ≡ putEdges (t .slot .0) e0 e1 (p .edges)
+      → y0 ≡ clearEnds (t .slot .0) (p .links .prev)
+      → (h1 ≡ set (p .links .heads) (headPlace n e0) (t .slot .0)) × (n0 ≡ set (p .links .next .x0) (t .slot .0) (headAt n e0 (p .links .heads))) × (y1 ≡ setEnd (headAt n e0 (p .links .heads)) e0 (t .slot .0) (v .min0) (v .max0) y0)
+      → (h2 ≡ set h1 (headPlace n e1) (t .slot .0)) × (n1 ≡ set (p .links .next .x1) (t .slot .0) (headAt n e1 h1)) × (y2 ≡ setEnd (headAt n e1 h1) e1 (t .slot .0) (v .min0) (v .max0) y1)
+      → _≡_ {A = Pool} (record { edges = v; links = record { heads = h2; next = ends n0 n1; prev = y2 }; order = o; free = p .free; counts = t .counts }) (poolPush n e0 e1 p)
+  unfolding poolPush linkFront
+  push-steps et eo ev ey l1 l2 =
+      let hs = slot-lt n p (ok .good) (ok .room) in
+      rw (l2 .0, l2 .1, l2 .2, l1 .0, l1 .1, l1 .2, eo, ev, ey, et, next-once n e0 e1 p _ ok hs (headAt n e0 (p .links .heads)) (headAt n e1 (set (p .links .heads) (headPlace n e0) (takeSlot (p .counts) (p .free) .slot .0))))
 
 pub remove-steps : (n s : ℕ) (p : Pool) {e0 e1 : Edge} {o : Order} {f : List ℕ} {c : Counts} {l1 l2 : Links}
     → e0 ≡ end0 (p .edges) s

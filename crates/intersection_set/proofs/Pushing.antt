@@ -219,7 +219,7 @@ module _ (n : ℕ) (p : Pool) (s : Store) (h : Stored n p s) (rep : lists n p s)
   pub push-ok : PushOk n (newRec a b s .e0) (newRec a b s .e1) p
   push-ok =
       let sr : Sound n (newRec a b s) = new-sound n a b s pa pb ab in
-      record { good = holds-good n p s h rep; edge0 = sr .first; edge1 = sr .second; room = omega (arith, h .live) }
+      record { good = holds-good n p s h rep; edge0 = sr .first; edge1 = sr .second; differ = differ sr; room = omega (arith, h .live) }
 
   sized : Sized n (pushAt n (newRec a b s .e0) (newRec a b s .e1) (takeSlot (p .counts) (p .free) .slot .0) (takeSlot (p .counts) (p .free) .counts) p)
   unfolding poolPush

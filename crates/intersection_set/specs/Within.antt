@@ -1,10 +1,11 @@
 -- What the steps of the pool ask of the buffers, so that no index leaves them.
 use mathlib.Core.Path.{_≡_}
 use mathlib.Core.Logic.{_≢_}
+use mathlib.Core.Bool.{false}
 use mathlib.Core.List.{List}
 use Prim.Native.Nat.{ℕ, _+_, _-_, _*_, _<_, _≤_}
 use lib.ListN.{length, getD}
-use Rattle.index_edge.specs.Edge.{Edge}
+use Rattle.index_edge.specs.Edge.{Edge, eqE}
 use Rattle.intersection_set.specs.Lists.{none, headPlace}
 use Rattle.intersection_set.specs.Pool.{Ends, Edges, Links, Order, Pool, end0, end1, headAt, poolRemove}
 use Rattle.intersection_set.specs.declared.utils.Counts.{Counts}
@@ -45,10 +46,10 @@ pub record HeadOk (n : ℕ) (e : Edge) (heads : List ℕ) : Type 0 where
   pub edge : Proper n e
   pub place : headPlace n e < length heads
 
-pub record LinkOk (n : ℕ) (e : Edge) (s : ℕ) (min0 max0 : List ℕ) (l : Links) : Type 0 where
-  pub head : HeadOk n e (l .heads)
-  pub first : EndOk s min0 max0 (l .next)
-  pub second : EndOk (headAt n e (l .heads)) min0 max0 (l .prev)
+pub record LinkOk (n : ℕ) (e : Edge) (s : ℕ) (min0 max0 heads next : List ℕ) (prev : Ends) : Type 0 where
+  pub head : HeadOk n e heads
+  pub in-next : s < length next
+  pub old : EndOk (headAt n e heads) min0 max0 prev
 
 pub record UnlinkOk (n : ℕ) (e : Edge) (next prev : ℕ) (min0 max0 : List ℕ) (l : Links) : Type 0 where
   pub head : HeadOk n e (l .heads)
@@ -96,6 +97,7 @@ pub record PushOk (n : ℕ) (e0 e1 : Edge) (p : Pool) : Type 0 where
   pub good : Good n p
   pub edge0 : Proper n e0
   pub edge1 : Proper n e1
+  pub differ : eqE e0 e1 ≡ false
   pub room : p .counts .live < n * (n - 1)
 
 pub record RemoveOk (n s : ℕ) (p : Pool) : Type 0 where

@@ -5,12 +5,12 @@
 ghost use mathlib.Core.Path.{_≡_};
 ghost use mathlib.Core.Bool.{true, cond};
 ghost use Prim.Native.Nat.{ℕ, _-_, _*_, _<_, _≤_};
-ghost use lib.ListN.{length, getD, drop};
+ghost use lib.ListN.{length, getD, set, drop};
 ghost use Rattle.index_edge.specs.Number.{edgeOf};
 ghost use Rattle.intersection_set.specs.Store.{Store, noRec, empty, push as pushed, removeAll as allRemoved, chosen};
 ghost use Rattle.intersection_set.specs.Lists.{headPlace};
-ghost use Rattle.intersection_set.specs.Pool.{Pool, ends, edges, links, poolOf, edgeAt, headAt, setEnd, linkFront, setHead, unlinkFrom, putEdges, clearEnds, poolPush, poolRemove, lesser, greater, fill};
-ghost use Rattle.intersection_set.specs.Within.{Proper, EndOk, HeadOk, LinkOk, UnlinkOk, InEdges, InLinks, Sized, PushOk, RemoveOk};
+ghost use Rattle.intersection_set.specs.Pool.{Pool, ends, edges, links, poolOf, edgeAt, headAt, setEnd, setHead, unlinkFrom, putEdges, clearEnds, poolPush, poolRemove, lesser, greater, fill};
+ghost use Rattle.intersection_set.specs.Within.{Proper, EndOk, HeadOk, LinkOk, UnlinkOk, InEdges, Sized, PushOk, RemoveOk};
 ghost use Rattle.intersection_set.specs.Holds.{Holds, MayPush, Beyond};
 use crate::utils::Counts;
 use crate::utils::NONE;
@@ -118,7 +118,8 @@ fn set_end(
     }
 }
 
-// Puts s in front of an edge's list: its next is the old head, whose previous becomes s.
+// Puts s in front of an edge's list: its next along that edge becomes the old head, whose previous becomes s.
+// The caller knows which end of s the edge is, and hands over that end's `next`.
 fn link_front(
     n: usize,
     e: IndexEdge,
@@ -126,20 +127,21 @@ fn link_front(
     min0: &[u16],
     max0: &[u16],
     heads: &mut [u16],
-    next0: &mut [u16],
+    next: &mut [u16],
     prev0: &mut [u16],
-    next1: &mut [u16],
     prev1: &mut [u16],
 )
-    requires { ⌜ LinkOk n (edgeOf e) (s .0) (now min0) (now max0) (links (now heads) (now next0) (now prev0) (now next1) (now prev1)) ⌝ }
-    ensures { λ _. ⌜ links (now (heads .exit)) (now (next0 .exit)) (now (prev0 .exit)) (now (next1 .exit)) (now (prev1 .exit))
-        ≡ linkFront n (edgeOf e) (s .0) (now (min0 .entry)) (now (max0 .entry)) (links (now (heads .entry)) (now (next0 .entry)) (now (prev0 .entry)) (now (next1 .entry)) (now (prev1 .entry))) ⌝ }
+    requires { ⌜ LinkOk n (edgeOf e) (s .0) (now min0) (now max0) (now heads) (now next) (ends (now prev0) (now prev1)) ⌝ }
+    ensures { λ _. ⌜ (now (heads .exit) ≡ set (now (heads .entry)) (headPlace n (edgeOf e)) (s .0))
+        × (now (next .exit) ≡ set (now (next .entry)) (s .0) (headAt n (edgeOf e) (now (heads .entry))))
+        × (ends (now (prev0 .exit)) (now (prev1 .exit)) ≡ setEnd (headAt n (edgeOf e) (now (heads .entry))) (edgeOf e) (s .0) (now (min0 .entry)) (now (max0 .entry)) (ends (now (prev0 .entry)) (now (prev1 .entry)))) ⌝ }
 {
     let at = place(n, e);
     let old = SparseIndex(heads[at]);
-    set_end(s, e, old, min0, max0, next0, next1);
-    set_end(old, e, s, min0, max0, prev0, prev1);
+    let i = s.0 as usize;
+    next[i] = old.0;
     heads[at] = s.0;
+    set_end(old, e, s, min0, max0, prev0, prev1);
 }
 
 // Writes the two edges of a record.
@@ -161,21 +163,13 @@ fn put_edges(
     max1[i] = isect.max.max.0;
 }
 
-// Writes that a record is linked to none.
-fn clear_links(
-    s: SparseIndex,
-    next0: &mut [u16],
-    prev0: &mut [u16],
-    next1: &mut [u16],
-    prev1: &mut [u16],
-)
-    requires { ⌜ InLinks (s .0) (ends (now next0) (now next1)) (ends (now prev0) (now prev1)) ⌝ }
-    ensures { λ _. ⌜ (ends (now (next0 .exit)) (now (next1 .exit)) ≡ clearEnds (s .0) (ends (now (next0 .entry)) (now (next1 .entry)))) × (ends (now (prev0 .exit)) (now (prev1 .exit)) ≡ clearEnds (s .0) (ends (now (prev0 .entry)) (now (prev1 .entry)))) ⌝ }
+// Writes that no record stands in front of a record in either list.
+fn clear_prev(s: SparseIndex, prev0: &mut [u16], prev1: &mut [u16])
+    requires { ⌜ (s .0 < length (now prev0)) × (s .0 < length (now prev1)) ⌝ }
+    ensures { λ _. ⌜ ends (now (prev0 .exit)) (now (prev1 .exit)) ≡ clearEnds (s .0) (ends (now (prev0 .entry)) (now (prev1 .entry))) ⌝ }
 {
     let i = s.0 as usize;
-    next0[i] = NONE;
     prev0[i] = NONE;
-    next1[i] = NONE;
     prev1[i] = NONE;
 }
 
@@ -204,11 +198,11 @@ pub fn push(
     let t = alloc(c, dense, reverse, free);
     let s = t.slot;
     put_edges(s, isect, min0, max0, min1, max1);
-    clear_links(s, next0, prev0, next1, prev1);
+    clear_prev(s, prev0, prev1);
     let e0 = isect.min;
     let e1 = isect.max;
-    link_front(n, e0, s, min0, max0, heads, next0, prev0, next1, prev1);
-    link_front(n, e1, s, min0, max0, heads, next0, prev0, next1, prev1);
+    link_front(n, e0, s, min0, max0, heads, next0, prev0, prev1);
+    link_front(n, e1, s, min0, max0, heads, next1, prev0, prev1);
     t.counts
 }
 
