@@ -1,17 +1,14 @@
 -- The meeting test by its parts. Three turns give the fourth; two on one side are enough to tell that nothing meets.
-use mathlib.Core.Path.{_≡_, refl, sym, _∙_, ap, ap₂, subst}
-use mathlib.Core.Bool.{Bool, true, false, not, _&&_, _||_, cond}
+use mathlib.Core.Path.{_≡_, refl, sym, _∙_, ap, subst}
+use mathlib.Core.Bool.{Bool, true, false, not, _&&_, cond}
 use mathlib.Core.List.{[], _∷_}
-use Prim.Native.Nat.{zero, suc, _≤_}
-use native.Mathlib.Omega.{arith}
-use lib.IntN.{ℤ, pos, negsuc, _+ℤ_, _-ℤ_, _*ℤ_}
-use lib.Signed.{ltZ}
-use borrow.Author.Tests.{le-ltb, lt-ltb}
+use Prim.Native.Nat.{_≤_}
+use lib.IntN.{ℤ, pos, _+ℤ_, _-ℤ_, _*ℤ_}
 use Rattle.algebra.specs.Polynomials.{_:+_, _:-_, _:*_}
 use Rattle.algebra.specs.Identities.{ident, pair, _:=_}
 use Rattle.algebra.specs.Size.{abs}
-use Rattle.algebra.specs.Cases.{both, true-or-false, never, or-no-left, or-no-right}
-use Rattle.geometry.specs.Plane.{Point, turn, isZero, eqP, collinear}
+use Rattle.algebra.specs.Cases.{both, true-or-false, never}
+use Rattle.geometry.specs.Plane.{Point, turn, isZero, collinear}
 use Rattle.geometry.specs.Segment.{sameSide, shared, parallel, overlap, meets}
 use Rattle.geometry.specs.Lent.{InRange}
 use Rattle.geometry.proofs.Turns.{turnE}

@@ -1,14 +1,12 @@
 -- The search for a kink and an edge that holds it, step by step: along the edges of a run, over the points of two runs, and its end.
 use mathlib.Core.Path.{_≡_, refl, sym, _∙_, ap}
-use mathlib.Core.Bool.{Bool, true, false, not, _&&_, Bool·beq}
+use mathlib.Core.Bool.{Bool, true, false, not, Bool·beq}
 use mathlib.Core.List.{List, [], _∷_, _++_, append-nil}
 use Prim.Native.Nat.{ℕ, zero, suc, min, _+_, _-_, _≤_, _<_}
 use native.Mathlib.Omega.{arith}
 use native.Mathlib.Numerals.{add-one}
-use lib.Dec.{eqb}
 use lib.ListN.{length, length-append}
-use borrow.Author.Tests.{eqb-true}
-use Rattle.algebra.specs.Cases.{both, true-or-false, le-cases, and-left, and-right}
+use Rattle.algebra.specs.Cases.{both, true-or-false, le-cases}
 use Rattle.geometry.specs.Plane.{Point, ltP}
 use Rattle.geometry.specs.Segment.{inside}
 use Rattle.geometry.proofs.Points.{inside-is, ltP-not}
@@ -134,20 +132,15 @@ module _ (n : ℕ) (pt : ℕ → Point) (r : List ℕ) where
       best-found n pt r (runPoints n s t) (runEdges n s t) (sym (length-append (edgesOf n s) (edgesOf n t) ∙ (λ j. edges-count s j + edges-count t j)))
       (f ∙ ap (overKinks n pt r (runEdges n s t) (pointsOf n t)) e ∙ sym (kinks-append n pt r (runEdges n s t) (pointsOf n s) (pointsOf n t) (unfound (s .edges + t .edges))))
 
-  -- ---- where both runs are one
-  pub same-runs : (s t : Run) {a : Bool} → a ≡ (eqb (s .from .id .0) (t .from .id .0) && eqb (s .edges) (t .edges)) → a ≡ true →
-      searchEdges n pt r (pointsOf n s) (edgesOf n s) ≡ searchEdges n pt r (runPoints n s t) (runEdges n s t)
-  same-runs s t e f =
-      let starts = eqb (s .from .id .0) (t .from .id .0) in
-      let counts = eqb (s .edges) (t .edges) in
-      let p : s .from .id .0 ≡ t .from .id .0 = eqb-true (s .from .id .0) (t .from .id .0) (and-left starts counts (sym e ∙ f)) in
-      let q : s .edges ≡ t .edges = eqb-true (s .edges) (t .edges) (and-right starts counts (sym e ∙ f)) in
-      search-twice n pt r (pointsOf n s) (edgesOf n s) ∙ (λ j. searchEdges n pt r (pointsOf n s ++ stretch n (p j) (suc (q j))) (edgesOf n s ++ stretch n (p j) (q j)))
-
 -- ---- both runs are those of the edges at i and j
 pub both-runs : (n : ℕ) (pt : ℕ → Point) (r : List ℕ) (i j : ℕ) {a b : Run} → a ≡ runFrom n pt r i → b ≡ runFrom n pt r j →
     searchEdges (a .from .size) pt r (runPoints (a .from .size) a b) (runEdges (a .from .size) a b) ≡ kinkAndEdge n pt r i j
 both-runs n pt r i j e f = λ t. searchEdges (e t .from .size) pt r (runPoints (e t .from .size) (e t) (f t)) (runEdges (e t .from .size) (e t) (f t))
+
+-- the same where one run has both edges
+pub run-of-both : (n : ℕ) (pt : ℕ → Point) (r : List ℕ) (i j : ℕ) {a : Run} → a ≡ runFrom n pt r i → runFrom n pt r j ≡ runFrom n pt r i →
+    searchEdges (a .from .size) pt r (pointsOf (a .from .size) a) (edgesOf (a .from .size) a) ≡ kinkAndEdge n pt r i j
+run-of-both n pt r i j {a} e z = search-twice (a .from .size) pt r (pointsOf (a .from .size) a) (edgesOf (a .from .size) a) ∙ both-runs n pt r i j e (e ∙ sym z)
 
 -- ---- on a board the search is never none
 pub never-nothing : {p q : Position} {pt : ℕ → Point} {r : List ℕ} {m : Answer} → IsRing (p .size) r → Board (p .size) pt → Both p q → Folded (p .size) pt r (p .id .0) (q .id .0) →

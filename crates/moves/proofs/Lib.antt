@@ -6,3 +6,4 @@ pub mod RunSteps
 pub mod BestPair
 pub mod KinkSearch
 pub mod PlanParts
+pub mod SameRun

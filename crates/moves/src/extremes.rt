@@ -74,7 +74,7 @@ fn run_on(x: &[i32], y: &[i32], ring: &[u16], start: Position) -> Position
 }
 
 // How many places on from one position is another.
-fn distance(from: Position, to: Position) -> u16
+pub fn distance(from: Position, to: Position) -> u16
     requires { ⌜ (from .id .0 < from .size) × (to .id .0 < from .size) ⌝ }
     ensures { λ r. ⌜ r ≡ dist (from .size) (from .id .0) (to .id .0) ⌝ }
 {

@@ -3,18 +3,17 @@
 // The original collects the kinks, and goes from edge to edge, for each over all of them. Here each point is asked once whether it is a kink, and is then
 // looked for only among the edges that come before the best one so far: an edge that comes later can be no answer.
 ghost use mathlib.Core.Path.{_≡_};
-ghost use mathlib.Core.Bool.{_&&_};
 ghost use Prim.Native.Nat.{min, _<_};
-ghost use lib.Dec.{eqb};
 ghost use Rattle.geometry.specs.Plane.{ltP};
 ghost use Rattle.geometry.specs.Lent.{points};
 ghost use Rattle.polygon.specs.Ring.{next};
-ghost use Rattle.machine.specs.Board.{ptAt, kinkAt};
+ghost use Rattle.machine.specs.Board.{Board, ptAt, kinkAt};
 ghost use Rattle.machine.specs.Search.{heldAt, searchEdges, kinkAndEdge};
 ghost use Rattle.moves.specs.Walk.{RingOver, Both};
 ghost use Rattle.moves.specs.Runs.{RunIn, mergableOf, pointsOf, edgesOf, runPoints, runEdges};
 ghost use Rattle.moves.specs.Best.{better, withKink, overKinks};
 use super::extremes::Run;
+use super::extremes::distance;
 use super::extremes::linear_extremes;
 use super::vertex::holds;
 use super::vertex::number_at;
@@ -182,22 +181,15 @@ fn search_runs(x: &[i32], y: &[i32], ring: &[u16], a: Run, b: Run) -> Mergable
     of_b.found
 }
 
-// Runs of one ring with the same start and as many edges are one run.
-fn is_same_run(a: Run, b: Run) -> bool
-    ensures { λ r. ⌜ r ≡ (eqb (a .from .id .0) (b .from .id .0) && eqb (a .edges) (b .edges)) ⌝ }
-{
-    (a.from.id.0 == b.from.id.0) & (a.edges == b.edges)
-}
-
-// The search for the edges that start at two positions. Two edges of one run have only that to search.
+// The search for the edges that start at two positions. Where the second lies on the first one's run there is only that to search.
 pub fn kink_and_edge(x: &[i32], y: &[i32], ring: &[u16], da: Position, db: Position) -> Mergable
-    requires { ⌜ RingOver (da .size) (now x) (now y) (now ring) × Both da db ⌝ }
+    requires { ⌜ RingOver (da .size) (now x) (now y) (now ring) × Both da db × Board (da .size) (points (now x) (now y)) ⌝ }
     ensures { λ r. ⌜ mergableOf r ≡ kinkAndEdge (da .size) (points (now (x .entry)) (now (y .entry))) (now (ring .entry)) (da .id .0) (db .id .0) ⌝ }
 {
     let a = linear_extremes(x, y, ring, da);
-    let b = linear_extremes(x, y, ring, db);
-    if is_same_run(a, b) {
+    if distance(a.from, db) < a.edges {
         return search_run(x, y, ring, a);
     }
+    let b = linear_extremes(x, y, ring, db);
     search_runs(x, y, ring, a, b)
 }

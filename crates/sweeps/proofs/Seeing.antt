@@ -19,7 +19,7 @@ use Rattle.geometry.proofs.Ordering.{key-lt, overlap-is}
 use Rattle.geometry.proofs.Symmetry.{meets-rev₂}
 use Rattle.index_edge.specs.Edge.{Edge, edge}
 use Rattle.intersection_set.specs.Within.{Proper}
-use Rattle.machine.specs.Board.{Distinct, meetE}
+use Rattle.machine.specs.Board.{meetE}
 use Rattle.machine.proofs.EdgesMeet.{meetE-comm}
 use Rattle.sweeps.specs.Sight.{Among, turnTo}
 use Rattle.sweeps.specs.Sweep.{asked, wanted}

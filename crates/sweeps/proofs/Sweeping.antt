@@ -1,6 +1,6 @@
 -- A sweep, one position after the other, and what it asks of edges and room.
 use mathlib.Core.Path.{_≡_, refl, sym, ap, subst, subst⁻¹, _∙_}
-use mathlib.Core.Bool.{Bool, true, false, not, _&&_, cond}
+use mathlib.Core.Bool.{Bool, true, false, not, cond}
 use mathlib.Core.List.{List, _++_}
 use mathlib.Core.Logic.{_≢_}
 use Prim.Native.Nat.{ℕ, suc, _+_, _-_, _*_, _≤_, _<_}
@@ -27,12 +27,11 @@ use Rattle.intersection_set.specs.Within.{Proper}
 use Rattle.intersection_set.specs.Holds.{MayPush}
 use Rattle.intersection_set.proofs.Slots.{Grows}
 use Rattle.machine.specs.Board.{Board, meetE}
-use Rattle.machine.specs.Machine.{scanOver, pairsWith}
 use Rattle.machine.proofs.Bounds.{scanOver-append, pairsWith-append}
 use Rattle.machine.proofs.Kept.{scanOver-grows, pairsWith-grows}
 use Rattle.machine.proofs.Turns.{scan-turn, start-inner, edges-at}
 use Rattle.sweeps.specs.Sweep.{firstOf, secondOf, wanted, sweepOver, Fits}
-use Rattle.sweeps.specs.Sight.{Among, turnTo, Spans, Sees, Sight}
+use Rattle.sweeps.specs.Sight.{turnTo, Spans, Sees, Sight}
 use Rattle.sweeps.specs.declared.intersects.Segment.{Segment}
 use Rattle.sweeps.specs.declared.intersects.Seen.{Seen}
 

@@ -1,5 +1,5 @@
 -- `intersect` meets its contract: its points are those of the ends, and an open end is a shared one.
-use mathlib.Core.Path.{_≡_, sym, _∙_, ap₂, subst}
+use mathlib.Core.Path.{sym, _∙_, ap₂, subst}
 use mathlib.Core.Bool.{_||_}
 use Rattle.geometry.specs.Plane.{turn}
 use Rattle.geometry.specs.Segment.{shared, meets}

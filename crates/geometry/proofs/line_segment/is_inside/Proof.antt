@@ -1,7 +1,6 @@
 -- `is_inside` meets its contract: its parts are those of the definition, in another order.
 use mathlib.Core.Path.{_≡_, refl, sym, _∙_, ap, ap₂}
 use mathlib.Core.Bool.{Bool, true, false, not, _&&_}
-use Rattle.algebra.specs.Cases.{never}
 use Rattle.geometry.specs.Plane.{isZero, ltP, minP, maxP, collinear}
 use Rattle.geometry.specs.Lent.{spot}
 use Rattle.geometry.proofs.Reading.{read-64}

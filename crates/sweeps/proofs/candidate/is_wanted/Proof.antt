@@ -1,6 +1,6 @@
 -- `is_wanted` meets its contract: what lies on one side is not met, and an edge that is not asked makes no record.
 use mathlib.Core.Path.{_≡_, refl, sym, _∙_, ap, ap₂}
-use mathlib.Core.Bool.{true, false, not}
+use mathlib.Core.Bool.{not}
 use borrow.Author.Needs.{needs}
 use Rattle.algebra.specs.Cases.{not-true, not-false}
 use Rattle.geometry.specs.Segment.{sameSide}

@@ -1,5 +1,5 @@
 -- `intersects` meets its contract: on one line by the order of the ends; else its four ends are those of the edges, and open where they are shared.
-use mathlib.Core.Path.{_≡_, sym, _∙_, ap₂, subst⁻¹}
+use mathlib.Core.Path.{sym, _∙_, ap₂, subst⁻¹}
 use mathlib.Core.Bool.{_||_}
 use borrow.Author.Needs.{needs}
 use Rattle.geometry.specs.Plane.{turn}

@@ -1,10 +1,10 @@
 -- `seen_after` meets its contract: the position after i is the next one.
-use mathlib.Core.Path.{_≡_, ap, subst, subst⁻¹}
+use mathlib.Core.Path.{subst}
 use native.Mathlib.Omega.{arith}
 use denote.Ref.{now}
-use Rattle.geometry.specs.Lent.{points, Lent}
+use Rattle.geometry.specs.Lent.{points}
 use Rattle.index_edge.specs.Number.{edgeOf}
-use Rattle.polygon.specs.Ring.{IsRing, at}
+use Rattle.polygon.specs.Ring.{at}
 use Rattle.polygon.specs.declared.position.Position.{Position}
 use Rattle.polygon.proofs.Positions.{next-lt}
 use Rattle.sweeps.specs.Sight.{Sees}

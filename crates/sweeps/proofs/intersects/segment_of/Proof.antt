@@ -1,5 +1,5 @@
 -- `segment_of` meets its contract: its keys are those of the lesser and the greater end.
-use mathlib.Core.Path.{_≡_, refl, sym, _∙_, ap, subst⁻¹}
+use mathlib.Core.Path.{_≡_, refl, _∙_, ap, subst⁻¹}
 use denote.Ref.{now}
 use borrow.Author.Needs.{needs}
 use Rattle.geometry.specs.Plane.{Point, ltP, minP, maxP}

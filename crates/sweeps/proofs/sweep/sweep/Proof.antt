@@ -1,5 +1,5 @@
 -- `sweep` meets its contract. The loop's invariant: whatever store the buffers held, they now hold it after a sweep over the edges before i.
-use Prim.Native.Nat.{ℕ, _-_, _*_, _≤_, _<_}
+use Prim.Native.Nat.{_-_, _*_, _≤_, _<_}
 use mathlib.Core.Path.{_≡_, ap, _∙_, subst, subst⁻¹}
 use mathlib.Core.Bool.{true}
 use native.Mathlib.Omega.{arith}
