@@ -57,20 +57,14 @@ pub extern "C" fn tour_two_opt_moves(
     ring: &mut [u16],
     index: &mut [u16],
     heads: &mut [u16],
-    min0: &mut [u16],
-    max0: &mut [u16],
-    next0: &mut [u16],
-    prev0: &mut [u16],
-    min1: &mut [u16],
-    max1: &mut [u16],
-    next1: &mut [u16],
-    prev1: &mut [u16],
+    ends: &mut [u64],
+    links: &mut [u64],
     dense: &mut [u16],
     reverse: &mut [u16],
     free: &mut [u16],
 ) -> TourAnswer
-    ensures { λ r. ⌜ (r ≡ inNumbers (call n (points (now (x .entry)) (now (y .entry))) (shortOf n (now (x .entry)) (now (y .entry)) (now (ring .entry)) (now (index .entry)) (lent (now (heads .entry)) (now (min0 .entry)) (now (max0 .entry)) (now (next0 .entry)) (now (prev0 .entry)) (now (min1 .entry)) (now (max1 .entry)) (now (next1 .entry)) (now (prev1 .entry)) (now (dense .entry)) (now (reverse .entry)) (now (free .entry)))) (upFrom 0 n) (now (picks .entry))))
-        × Leaves n (points (now (x .entry)) (now (y .entry))) (shortOf n (now (x .entry)) (now (y .entry)) (now (ring .entry)) (now (index .entry)) (lent (now (heads .entry)) (now (min0 .entry)) (now (max0 .entry)) (now (next0 .entry)) (now (prev0 .entry)) (now (min1 .entry)) (now (max1 .entry)) (now (next1 .entry)) (now (prev1 .entry)) (now (dense .entry)) (now (reverse .entry)) (now (free .entry)))) (upFrom 0 n) (now (picks .entry)) (now (ring .entry)) (now (index .entry)) (lent (now (heads .entry)) (now (min0 .entry)) (now (max0 .entry)) (now (next0 .entry)) (now (prev0 .entry)) (now (min1 .entry)) (now (max1 .entry)) (now (next1 .entry)) (now (prev1 .entry)) (now (dense .entry)) (now (reverse .entry)) (now (free .entry))) (now (ring .exit)) (now (index .exit)) (lent (now (heads .exit)) (now (min0 .exit)) (now (max0 .exit)) (now (next0 .exit)) (now (prev0 .exit)) (now (min1 .exit)) (now (max1 .exit)) (now (next1 .exit)) (now (prev1 .exit)) (now (dense .exit)) (now (reverse .exit)) (now (free .exit))) ⌝ }
+    ensures { λ r. ⌜ (r ≡ inNumbers (call n (points (now (x .entry)) (now (y .entry))) (shortOf n (now (x .entry)) (now (y .entry)) (now (ring .entry)) (now (index .entry)) (lent (now (heads .entry)) (now (ends .entry)) (now (links .entry)) (now (dense .entry)) (now (reverse .entry)) (now (free .entry)))) (upFrom 0 n) (now (picks .entry))))
+        × Leaves n (points (now (x .entry)) (now (y .entry))) (shortOf n (now (x .entry)) (now (y .entry)) (now (ring .entry)) (now (index .entry)) (lent (now (heads .entry)) (now (ends .entry)) (now (links .entry)) (now (dense .entry)) (now (reverse .entry)) (now (free .entry)))) (upFrom 0 n) (now (picks .entry)) (now (ring .entry)) (now (index .entry)) (lent (now (heads .entry)) (now (ends .entry)) (now (links .entry)) (now (dense .entry)) (now (reverse .entry)) (now (free .entry))) (now (ring .exit)) (now (index .exit)) (lent (now (heads .exit)) (now (ends .exit)) (now (links .exit)) (now (dense .exit)) (now (reverse .exit)) (now (free .exit))) ⌝ }
 {
     in_numbers(two_opt_moves(
         n,
@@ -80,14 +74,8 @@ pub extern "C" fn tour_two_opt_moves(
         ring,
         index,
         heads,
-        min0,
-        max0,
-        next0,
-        prev0,
-        min1,
-        max1,
-        next1,
-        prev1,
+        ends,
+        links,
         dense,
         reverse,
         free,
@@ -104,20 +92,14 @@ pub extern "C" fn tour_resolve_self_intersections(
     ring: &mut [u16],
     index: &mut [u16],
     heads: &mut [u16],
-    min0: &mut [u16],
-    max0: &mut [u16],
-    next0: &mut [u16],
-    prev0: &mut [u16],
-    min1: &mut [u16],
-    max1: &mut [u16],
-    next1: &mut [u16],
-    prev1: &mut [u16],
+    ends: &mut [u64],
+    links: &mut [u64],
     dense: &mut [u16],
     reverse: &mut [u16],
     free: &mut [u16],
 ) -> TourAnswer
-    ensures { λ r. ⌜ (r ≡ inNumbers (call n (points (now (x .entry)) (now (y .entry))) (shortOf n (now (x .entry)) (now (y .entry)) (now (ring .entry)) (now (index .entry)) (lent (now (heads .entry)) (now (min0 .entry)) (now (max0 .entry)) (now (next0 .entry)) (now (prev0 .entry)) (now (min1 .entry)) (now (max1 .entry)) (now (next1 .entry)) (now (prev1 .entry)) (now (dense .entry)) (now (reverse .entry)) (now (free .entry)))) (take n (now (ring .entry))) (now (picks .entry))))
-        × Leaves n (points (now (x .entry)) (now (y .entry))) (shortOf n (now (x .entry)) (now (y .entry)) (now (ring .entry)) (now (index .entry)) (lent (now (heads .entry)) (now (min0 .entry)) (now (max0 .entry)) (now (next0 .entry)) (now (prev0 .entry)) (now (min1 .entry)) (now (max1 .entry)) (now (next1 .entry)) (now (prev1 .entry)) (now (dense .entry)) (now (reverse .entry)) (now (free .entry)))) (take n (now (ring .entry))) (now (picks .entry)) (now (ring .entry)) (now (index .entry)) (lent (now (heads .entry)) (now (min0 .entry)) (now (max0 .entry)) (now (next0 .entry)) (now (prev0 .entry)) (now (min1 .entry)) (now (max1 .entry)) (now (next1 .entry)) (now (prev1 .entry)) (now (dense .entry)) (now (reverse .entry)) (now (free .entry))) (now (ring .exit)) (now (index .exit)) (lent (now (heads .exit)) (now (min0 .exit)) (now (max0 .exit)) (now (next0 .exit)) (now (prev0 .exit)) (now (min1 .exit)) (now (max1 .exit)) (now (next1 .exit)) (now (prev1 .exit)) (now (dense .exit)) (now (reverse .exit)) (now (free .exit))) ⌝ }
+    ensures { λ r. ⌜ (r ≡ inNumbers (call n (points (now (x .entry)) (now (y .entry))) (shortOf n (now (x .entry)) (now (y .entry)) (now (ring .entry)) (now (index .entry)) (lent (now (heads .entry)) (now (ends .entry)) (now (links .entry)) (now (dense .entry)) (now (reverse .entry)) (now (free .entry)))) (take n (now (ring .entry))) (now (picks .entry))))
+        × Leaves n (points (now (x .entry)) (now (y .entry))) (shortOf n (now (x .entry)) (now (y .entry)) (now (ring .entry)) (now (index .entry)) (lent (now (heads .entry)) (now (ends .entry)) (now (links .entry)) (now (dense .entry)) (now (reverse .entry)) (now (free .entry)))) (take n (now (ring .entry))) (now (picks .entry)) (now (ring .entry)) (now (index .entry)) (lent (now (heads .entry)) (now (ends .entry)) (now (links .entry)) (now (dense .entry)) (now (reverse .entry)) (now (free .entry))) (now (ring .exit)) (now (index .exit)) (lent (now (heads .exit)) (now (ends .exit)) (now (links .exit)) (now (dense .exit)) (now (reverse .exit)) (now (free .exit))) ⌝ }
 {
     in_numbers(resolve_self_intersections(
         n,
@@ -127,14 +109,8 @@ pub extern "C" fn tour_resolve_self_intersections(
         ring,
         index,
         heads,
-        min0,
-        max0,
-        next0,
-        prev0,
-        min1,
-        max1,
-        next1,
-        prev1,
+        ends,
+        links,
         dense,
         reverse,
         free,

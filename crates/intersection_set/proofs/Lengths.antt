@@ -14,8 +14,8 @@ use Rattle.algebra.specs.Cases.{both, eq-cases}
 use Rattle.index_edge.specs.Edge.{Edge, eqE}
 use Rattle.index_edge.proofs.Edges.{eqE-refl, eqE-sym}
 use Rattle.intersection_set.specs.Lists.{none, headPlace}
-use Rattle.intersection_set.specs.Pool.{Ends, ends, Edges, Links, Order, Pool, countsOf, takeSlot, densePush, denseRemove, edgeAt, end0, end1, setEnd, headAt, linkFront, setHead, unlinkFrom, putEdges, clearEnds, poolPush, poolRemove, poolRemoveAll}
-use Rattle.intersection_set.specs.Within.{Proper, TakeOk, AppendOk, EndOk, HeadOk, LinkOk, UnlinkOk, InEdges, Sized, Good, PushOk, RemoveOk, Drained}
+use Rattle.intersection_set.specs.Pool.{Ends, ends, Edges, Links, Order, Pool, countsOf, takeSlot, densePush, denseRemove, edgeAt, end0, end1, setEnd, headAt, linkFront, setHead, unlinkFrom, putEdges, putEnds, clearEnds, poolPush, poolRemove, poolRemoveAll}
+use Rattle.intersection_set.specs.Within.{Proper, TakeOk, AppendOk, EndOk, HeadOk, UnlinkOk, Sized, Good, PushOk, RemoveOk, Drained}
 use Rattle.intersection_set.specs.declared.utils.Counts.{Counts}
 use Rattle.intersection_set.specs.declared.utils.Taken.{Taken}
 use Rattle.intersection_set.proofs.HeadPlaces.{placed, head-below}
@@ -90,49 +90,44 @@ module _ (n : ℕ) (e0 e1 : Edge) (p : Pool) (s : ℕ) (ok : PushOk n e0 e1 p) (
       let k = cap-small (ok .good .small) in
       record { fits = omega (arith, ok .room); in-dense = lt-of-lt-of-le (ok .room) (ok .good .sizes .in-dense); in-reverse = lt-of-lt-of-le hs (ok .good .sizes .in-reverse) }
 
-  pub edges-ok : InEdges s (p .edges)
-  edges-ok =
-      let z = ok .good .sizes in
-      record { in-min0 = lt-of-lt-of-le hs (z .in-min0); in-max0 = lt-of-lt-of-le hs (z .in-max0); in-min1 = lt-of-lt-of-le hs (z .in-min1); in-max1 = lt-of-lt-of-le hs (z .in-max1) }
+  pub edges-ok : s < length (p .edges .min0)
+  edges-ok = lt-of-lt-of-le hs (ok .good .sizes .in-min0)
 
-  pub prevs-ok : (s < length (p .links .prev .x0)) × (s < length (p .links .prev .x1))
-  prevs-ok = (lt-of-lt-of-le hs (ok .good .sizes .in-prev0), lt-of-lt-of-le hs (ok .good .sizes .in-prev1))
+  pub links-ok : s < length (p .links .next .x0)
+  links-ok = lt-of-lt-of-le hs (ok .good .sizes .in-next0)
 
-  -- the first link may be made
-  link-written : LinkOk n e0 s (putEdges s e0 e1 (p .edges) .min0) (putEdges s e0 e1 (p .edges) .max0) (p .links .heads) (p .links .next .x0) (clearEnds s (p .links .prev))
+  pub head-ok-1 : HeadOk n e0 (p .links .heads)
+  head-ok-1 = head-ok (ok .good .small) (ok .edge0) (ok .good .sizes .in-heads)
+
+  pub head-ok-2 : {h : List ℕ} → h ≡ set (p .links .heads) (headPlace n e0) s → HeadOk n e1 h
+  head-ok-2 eh = rw eh (head-ok (ok .good .small) (ok .edge1) (simp length-set (ok .good .sizes .in-heads)))
+
+  -- the old head of the first list may be linked
+  old-written : EndOk (headAt n e0 (p .links .heads)) (putEdges s e0 e1 (p .edges) .min0) (putEdges s e0 e1 (p .edges) .max0) (clearEnds s (p .links .prev))
   unfolding putEdges clearEnds
-  link-written =
+  old-written =
       let g = ok .good in
       let z = g .sizes in
-      record {
-        head = head-ok (g .small) (ok .edge0) (z .in-heads);
-        in-next = lt-of-lt-of-le hs (z .in-next0);
-        old = end-ok _ (n * (n - 1)) (g .head e0 (ok .edge0)) (simp length-set (z .in-min0)) (simp length-set (z .in-max0)) (simp length-set (z .in-prev0)) (simp length-set (z .in-prev1));
-      }
+      end-ok _ (n * (n - 1)) (g .head e0 (ok .edge0)) (simp length-set (z .in-min0)) (simp length-set (z .in-max0)) (simp length-set (z .in-prev0)) (simp length-set (z .in-prev1))
 
-  -- and then the second
-  link-linked : LinkOk n e1 s (putEdges s e0 e1 (p .edges) .min0) (putEdges s e0 e1 (p .edges) .max0) (set (p .links .heads) (headPlace n e0) s) (p .links .next .x1)
+  -- and then that of the second
+  old-linked : EndOk (headAt n e1 (set (p .links .heads) (headPlace n e0) s)) (putEdges s e0 e1 (p .edges) .min0) (putEdges s e0 e1 (p .edges) .max0)
       (setEnd (headAt n e0 (p .links .heads)) e0 s (putEdges s e0 e1 (p .edges) .min0) (putEdges s e0 e1 (p .edges) .max0) (clearEnds s (p .links .prev)))
   unfolding putEdges clearEnds
-  link-linked =
+  old-linked =
       let g = ok .good in
       let z = g .sizes in
       let h0 = lt-of-lt-of-le (place-lt n e0 (ok .edge0)) (z .in-heads) in
-      record {
-        head = head-ok (g .small) (ok .edge1) (simp length-set (z .in-heads));
-        in-next = lt-of-lt-of-le hs (z .in-next1);
-        old = end-ok _ (n * (n - 1)) (head-set (p .links .heads) (headPlace n e0) (headPlace n e1) s (n * (n - 1)) h0 hs (g .head e1 (ok .edge1))) (simp length-set (z .in-min0)) (simp length-set (z .in-max0))
-            (simp (len-x0, length-set) (z .in-prev0)) (simp (len-x1, length-set) (z .in-prev1));
-      }
+      end-ok _ (n * (n - 1)) (head-set (p .links .heads) (headPlace n e0) (headPlace n e1) s (n * (n - 1)) h0 hs (g .head e1 (ok .edge1))) (simp length-set (z .in-min0)) (simp length-set (z .in-max0))
+      (simp (len-x0, length-set) (z .in-prev0)) (simp (len-x1, length-set) (z .in-prev1))
 
-  -- the same of the lists that the code's steps leave
-  module _ {v : Edges} {y : Ends} (ev : v ≡ putEdges s e0 e1 (p .edges)) (ey : y ≡ clearEnds s (p .links .prev)) where
-    pub link-ok : LinkOk n e0 s (v .min0) (v .max0) (p .links .heads) (p .links .next .x0) y
-    link-ok = rw (ev, ey) link-written
+  -- the same of what the code's steps leave
+  module _ {v : Edges} {y : Ends} {m0 : ℕ} (ev : v ≡ putEdges s e0 e1 (p .edges)) (ey : y ≡ clearEnds s (p .links .prev)) (e0h : m0 ≡ headAt n e0 (p .links .heads)) where
+    pub old-ok : EndOk m0 (v .min0) (v .max0) y
+    old-ok = rw (e0h, ev, ey) old-written
 
-    pub link-ok-2 : {h : List ℕ} {z : Ends} → h ≡ set (p .links .heads) (headPlace n e0) s → z ≡ setEnd (headAt n e0 (p .links .heads)) e0 s (v .min0) (v .max0) y
-        → LinkOk n e1 s (v .min0) (v .max0) h (p .links .next .x1) z
-    link-ok-2 eh ez = rw (eh, ez, ev, ey) link-linked
+    pub old-ok-2 : {h : List ℕ} {z : Ends} {m1 : ℕ} → h ≡ set (p .links .heads) (headPlace n e0) s → m1 ≡ headAt n e1 h → z ≡ setEnd m0 e0 s (v .min0) (v .max0) y → EndOk m1 (v .min0) (v .max0) z
+    old-ok-2 eh e1h ez = rw (e1h, eh, ez, e0h, ev, ey) old-linked
 
   slot-some : s ≢ none
   slot-some q = omega (arith, hs, q, cap-small (ok .good .small))
@@ -152,10 +147,10 @@ module _ (n : ℕ) (e0 e1 : Edge) (p : Pool) (s : ℕ) (ok : PushOk n e0 e1 p) (
       rw (ne-eqb s none slot-some, getD-set-same (p .edges .min0) s (e0 .lo) 0 (lt-of-lt-of-le hs (z .in-min0)), getD-set-same (p .edges .max0) s (e0 .hi) 0 (lt-of-lt-of-le hs (z .in-max0)), d)
 
   -- Its `next` in each end is written once: clearing it before changes nothing.
-  pub next-once : (h0 h1 : ℕ) → ends (set (p .links .next .x0) s h0) (set (p .links .next .x1) s h1)
+  pub next-once : (h0 h1 : ℕ) → putEnds s h0 h1 (p .links .next)
       ≡ setEnd s e1 h1 (putEdges s e0 e1 (p .edges) .min0) (putEdges s e0 e1 (p .edges) .max0)
       (setEnd s e0 h0 (putEdges s e0 e1 (p .edges) .min0) (putEdges s e0 e1 (p .edges) .max0) (clearEnds s (p .links .next)))
-  unfolding clearEnds
+  unfolding clearEnds putEnds
   next-once h0 h1 =
       rw (ends-first h0 (clearEnds s (p .links .next)), ends-second h1 (ends (set (set (p .links .next .x0) s none) s h0) (set (p .links .next .x1) s none)), set-set (p .links .next .x0) s none h0, set-set (p .links .next .x1) s none h1)
 
@@ -250,30 +245,39 @@ sizes-remove n s p =
 
 -- ---- the steps of the code, put together
 module _ (n : ℕ) (e0 e1 : Edge) (p : Pool) (ok : PushOk n e0 e1 p) where
-  pub push-steps : {t : Taken} {o : Order} {v : Edges} {h1 h2 n0 n1 : List ℕ} {y0 y1 y2 : Ends}
+  pub push-steps : {t : Taken} {o : Order} {v : Edges} {h1 h2 : List ℕ} {m0 m1 : ℕ} {x0 x1 x2 y0 y1 y2 : Ends}
       → t ≡ takeSlot (p .counts) (p .free)
       → o ≡ densePush (t .slot .0) (p .counts .live) (p .order)
-      → v ≡ putEdges (t .slot .0) e0 e1 (p .edges)
-      → y0 ≡ clearEnds (t .slot .0) (p .links .prev)
-      → (h1 ≡ set (p .links .heads) (headPlace n e0) (t .slot .0)) × (n0 ≡ set (p .links .next .x0) (t .slot .0) (headAt n e0 (p .links .heads))) × (y1 ≡ setEnd (headAt n e0 (p .links .heads)) e0 (t .slot .0) (v .min0) (v .max0) y0)
-      → (h2 ≡ set h1 (headPlace n e1) (t .slot .0)) × (n1 ≡ set (p .links .next .x1) (t .slot .0) (headAt n e1 h1)) × (y2 ≡ setEnd (headAt n e1 h1) e1 (t .slot .0) (v .min0) (v .max0) y1)
-      → _≡_ {A = Pool} (record { edges = v; links = record { heads = h2; next = ends n0 n1; prev = y2 }; order = o; free = p .free; counts = t .counts }) (poolPush n e0 e1 p)
+      → (m0 ≡ headAt n e0 (p .links .heads)) × (h1 ≡ set (p .links .heads) (headPlace n e0) (t .slot .0))
+      → (m1 ≡ headAt n e1 h1) × (h2 ≡ set h1 (headPlace n e1) (t .slot .0))
+      → (v ≡ putEdges (t .slot .0) e0 e1 (p .edges)) × (x0 ≡ putEnds (t .slot .0) m0 m1 (p .links .next)) × (y0 ≡ clearEnds (t .slot .0) (p .links .prev))
+      → (y1 ≡ setEnd m0 e0 (t .slot .0) (v .min0) (v .max0) y0) × (x1 ≡ x0)
+      → (y2 ≡ setEnd m1 e1 (t .slot .0) (v .min0) (v .max0) y1) × (x2 ≡ x1)
+      → _≡_ {A = Pool} (record { edges = v; links = record { heads = h2; next = x2; prev = y2 }; order = o; free = p .free; counts = t .counts }) (poolPush n e0 e1 p)
   unfolding poolPush linkFront
-  push-steps et eo ev ey l1 l2 =
+  push-steps et eo t1 t2 w s1 s2 =
       let hs = slot-lt n p (ok .good) (ok .room) in
-      rw (l2 .0, l2 .1, l2 .2, l1 .0, l1 .1, l1 .2, eo, ev, ey, et, next-once n e0 e1 p _ ok hs (headAt n e0 (p .links .heads)) (headAt n e1 (set (p .links .heads) (headPlace n e0) (takeSlot (p .counts) (p .free) .slot .0))))
+      rw (s2 .0, s2 .1, s1 .0, s1 .1, w .1, w .2, w .0, t2 .0, t2 .1, t1 .0, t1 .1, eo, et, next-once n e0 e1 p _ ok hs (headAt n e0 (p .links .heads)) (headAt n e1 (set (p .links .heads) (headPlace n e0) (takeSlot (p .counts) (p .free) .slot .0))))
 
-pub remove-steps : (n s : ℕ) (p : Pool) {e0 e1 : Edge} {o : Order} {f : List ℕ} {c : Counts} {l1 l2 : Links}
-    → e0 ≡ end0 (p .edges) s
-    → e1 ≡ end1 (p .edges) s
-    → l1 ≡ unlinkFrom n e0 (getD (p .links .next .x0) s 0) (getD (p .links .prev .x0) s 0) (p .edges .min0) (p .edges .max0) (p .links)
-    → l2 ≡ unlinkFrom n e1 (getD (p .links .next .x1) s 0) (getD (p .links .prev .x1) s 0) (p .edges .min0) (p .edges .max0) l1
-    → o ≡ denseRemove s (p .counts .live) (p .order)
-    → f ≡ set (p .free) (p .counts .freed) s
-    → c ≡ countsOf (p .counts .live - 1) (p .counts .grown) (p .counts .freed + 1)
-    → _≡_ {A = Pool} (record { edges = p .edges; links = l2; order = o; free = f; counts = c }) (poolRemove n s p)
-unfolding poolRemove
-remove-steps n s p f0 f1 el1 el2 eo ef ec = rw (el2, el1, eo, ef, ec, f1, f0)
+-- what the code reads of the record that goes
+pub record ReadAt (p : Pool) (s : ℕ) (e0 e1 : Edge) (n0 p0 n1 p1 : ℕ) : Type 0 where
+  pub edge0 : e0 ≡ end0 (p .edges) s
+  pub edge1 : e1 ≡ end1 (p .edges) s
+  pub next0 : n0 ≡ getD (p .links .next .x0) s 0
+  pub prev0 : p0 ≡ getD (p .links .prev .x0) s 0
+  pub next1 : n1 ≡ getD (p .links .next .x1) s 0
+  pub prev1 : p1 ≡ getD (p .links .prev .x1) s 0
+
+module _ (n s : ℕ) (p : Pool) {e0 e1 : Edge} {n0 p0 n1 p1 : ℕ} (z : ReadAt p s e0 e1 n0 p0 n1 p1) where
+  pub remove-steps : {o : Order} {f : List ℕ} {c : Counts} {l1 l2 : Links}
+      → l1 ≡ unlinkFrom n e0 n0 p0 (p .edges .min0) (p .edges .max0) (p .links)
+      → l2 ≡ unlinkFrom n e1 n1 p1 (p .edges .min0) (p .edges .max0) l1
+      → o ≡ denseRemove s (p .counts .live) (p .order)
+      → f ≡ set (p .free) (p .counts .freed) s
+      → c ≡ countsOf (p .counts .live - 1) (p .counts .grown) (p .counts .freed + 1)
+      → _≡_ {A = Pool} (record { edges = p .edges; links = l2; order = o; free = f; counts = c }) (poolRemove n s p)
+  unfolding poolRemove
+  remove-steps el1 el2 eo ef ec = rw (el2, el1, eo, ef, ec, z .edge1, z .edge0, z .next0, z .prev0, z .next1, z .prev1)
 
 -- ---- a removal stays inside: an unlinking leaves what another needs
 unlink-still : {n : ℕ} {e : Edge} {x v : ℕ} {min0 max0 : List ℕ} {l : Links} (f : Edge) (y w : ℕ) → UnlinkOk n e x v min0 max0 l → UnlinkOk n e x v min0 max0 (unlinkFrom n f y w min0 max0 l)
@@ -285,14 +289,12 @@ unlink-still f y w ok =
       second = record { in-min0 = ok .second .in-min0; in-max0 = ok .second .in-max0; in-x0 = λ z. simp len-x0 (ok .second .in-x0 z); in-x1 = λ z. simp len-x1 (ok .second .in-x1 z) };
     }
 
-module _ (n s : ℕ) (p : Pool) (ok : RemoveOk n s p) where
-  pub unlink-ok : {e : Edge} → e ≡ end0 (p .edges) s → UnlinkOk n e (getD (p .links .next .x0) s 0) (getD (p .links .prev .x0) s 0) (p .edges .min0) (p .edges .max0) (p .links)
-  unlink-ok q = rw q (ok .unlink0)
+module _ (n s : ℕ) (p : Pool) (ok : RemoveOk n s p) {e0 e1 : Edge} {n0 p0 n1 p1 : ℕ} (z : ReadAt p s e0 e1 n0 p0 n1 p1) where
+  pub unlink-ok : UnlinkOk n e0 n0 p0 (p .edges .min0) (p .edges .max0) (p .links)
+  unlink-ok = rw (z .edge0, z .next0, z .prev0) (ok .unlink0)
 
-  pub unlink-ok-2 : {e f : Edge} {l : Links} → f ≡ end0 (p .edges) s → e ≡ end1 (p .edges) s
-      → l ≡ unlinkFrom n f (getD (p .links .next .x0) s 0) (getD (p .links .prev .x0) s 0) (p .edges .min0) (p .edges .max0) (p .links)
-      → UnlinkOk n e (getD (p .links .next .x1) s 0) (getD (p .links .prev .x1) s 0) (p .edges .min0) (p .edges .max0) l
-  unlink-ok-2 {f} q r t = rw (r, t) (unlink-still f _ _ (ok .unlink1))
+  pub unlink-ok-2 : {l : Links} → l ≡ unlinkFrom n e0 n0 p0 (p .edges .min0) (p .edges .max0) (p .links) → UnlinkOk n e1 n1 p1 (p .edges .min0) (p .edges .max0) l
+  unlink-ok-2 t = rw (z .edge1, z .next1, z .prev1, t) (unlink-still e0 _ _ (ok .unlink1))
 
 -- ---- removing while there is one
 pub live-remove : (n s : ℕ) (p : Pool) → poolRemove n s p .counts .live ≡ p .counts .live - 1

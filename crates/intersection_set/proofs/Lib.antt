@@ -6,6 +6,7 @@ pub mod ByAge
 pub mod Draining
 pub mod Filling
 pub mod HeadPlaces
+pub mod Words
 pub mod Lengths
 pub mod ReadOff
 pub mod Alike

@@ -1,11 +1,12 @@
--- The lent buffers as lists, and what each step of the pool does to them.
+-- What the lent buffers say, as a list for each field of a record, and what each step of the pool does to it.
 use mathlib.Core.Bool.{cond}
-use mathlib.Core.List.{List, _++_}
+use mathlib.Core.List.{List, _++_, map}
 use Prim.Native.Nat.{ℕ, zero, suc, _+_, _-_}
 use lib.ListN.{getD, set, drop, replicate}
 use lib.Dec.{eqb}
 use Rattle.index_edge.specs.Edge.{Edge, eqE, ltE}
 use Rattle.intersection_set.specs.Lists.{none, headPlace}
+use Rattle.intersection_set.specs.Words.{part0, part1, part2, part3}
 use Rattle.intersection_set.specs.declared.utils.Counts.{Counts}
 use Rattle.intersection_set.specs.declared.utils.Taken.{Taken}
 
@@ -27,6 +28,10 @@ pub record Edges : Type 0 where
 abbrev pub edges : List ℕ → List ℕ → List ℕ → List ℕ → Edges
 edges min0 max0 min1 max1 = record { min0 = min0; max0 = max0; min1 = min1; max1 = max1 }
 
+-- as they stand in a record's first word
+unfoldable pub edgesOf : List ℕ → Edges
+edgesOf w = edges (map part0 w) (map part1 w) (map part2 w) (map part3 w)
+
 -- each edge's head, and each record's links along its two edges
 pub record Links : Type 0 where
   pub heads : List ℕ
@@ -35,6 +40,16 @@ pub record Links : Type 0 where
 
 abbrev pub links : List ℕ → List ℕ → List ℕ → List ℕ → List ℕ → Links
 links heads next0 prev0 next1 prev1 = record { heads = heads; next = ends next0 next1; prev = ends prev0 prev1 }
+
+-- as they stand in a record's second word
+unfoldable pub nextsOf : List ℕ → Ends
+nextsOf w = ends (map part0 w) (map part2 w)
+
+unfoldable pub prevsOf : List ℕ → Ends
+prevsOf w = ends (map part1 w) (map part3 w)
+
+abbrev pub linksOf : List ℕ → List ℕ → Links
+linksOf heads w = record { heads = heads; next = nextsOf w; prev = prevsOf w }
 
 -- the slots of the live records, and each live slot's place among them
 pub record Order : Type 0 where
@@ -52,11 +67,11 @@ pub record Pool : Type 0 where
   pub free : List ℕ
   pub counts : Counts
 
-abbrev pub poolOf : List ℕ → List ℕ → List ℕ → List ℕ → List ℕ → List ℕ → List ℕ → List ℕ → List ℕ → List ℕ → List ℕ → List ℕ → Counts → Pool
-poolOf heads min0 max0 next0 prev0 min1 max1 next1 prev1 dense reverse free c =
+abbrev pub poolOf : List ℕ → List ℕ → List ℕ → List ℕ → List ℕ → List ℕ → Counts → Pool
+poolOf heads ends links dense reverse free c =
     record {
-      edges = edges min0 max0 min1 max1;
-      links = links heads next0 prev0 next1 prev1;
+      edges = edgesOf ends;
+      links = linksOf heads links;
       order = order dense reverse;
       free = free;
       counts = c;
@@ -125,6 +140,9 @@ unlinkFrom n e next prev min0 max0 l =
 -- ---- push
 unfoldable pub putEdges : ℕ → Edge → Edge → Edges → Edges
 putEdges s e0 e1 v = edges (set (v .min0) s (e0 .lo)) (set (v .max0) s (e0 .hi)) (set (v .min1) s (e1 .lo)) (set (v .max1) s (e1 .hi))
+
+unfoldable pub putEnds : ℕ → ℕ → ℕ → Ends → Ends
+putEnds s v0 v1 x = ends (set (x .x0) s v0) (set (x .x1) s v1)
 
 unfoldable pub clearEnds : ℕ → Ends → Ends
 clearEnds s x = ends (set (x .x0) s none) (set (x .x1) s none)

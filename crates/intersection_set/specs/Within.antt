@@ -46,11 +46,6 @@ pub record HeadOk (n : ℕ) (e : Edge) (heads : List ℕ) : Type 0 where
   pub edge : Proper n e
   pub place : headPlace n e < length heads
 
-pub record LinkOk (n : ℕ) (e : Edge) (s : ℕ) (min0 max0 heads next : List ℕ) (prev : Ends) : Type 0 where
-  pub head : HeadOk n e heads
-  pub in-next : s < length next
-  pub old : EndOk (headAt n e heads) min0 max0 prev
-
 pub record UnlinkOk (n : ℕ) (e : Edge) (next prev : ℕ) (min0 max0 : List ℕ) (l : Links) : Type 0 where
   pub head : HeadOk n e (l .heads)
   pub first : EndOk prev min0 max0 (l .next)

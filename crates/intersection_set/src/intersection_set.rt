@@ -1,7 +1,8 @@
 // Crossing records, each linked along its two edges (intersection_set.rs, `IndexIntersectionSet`).
 //
-// A record's fields are lent slices, indexed by its slot: of edge0 its vertex0 `min0`, its vertex1 `max0`, and its links `next0`
-// and `prev0` along that edge's list; of edge1 the same. `heads` has each edge's newest record.
+// A record is two words, indexed by its slot, each of four 16-bit numbers, the first lowest. `ends` has the points of its edges: edge0's min
+// and max, edge1's min and max. `links` has its links along their lists: next and previous along edge0, next and previous along edge1.
+// `heads` has each edge's newest record.
 ghost use mathlib.Core.Path.{_≡_};
 ghost use mathlib.Core.Bool.{true, cond};
 ghost use Prim.Native.Nat.{ℕ, _-_, _*_, _<_, _≤_};
@@ -9,8 +10,9 @@ ghost use lib.ListN.{length, getD, set, drop};
 ghost use Rattle.index_edge.specs.Number.{edgeOf};
 ghost use Rattle.intersection_set.specs.Store.{Store, noRec, empty, push as pushed, removeAll as allRemoved, chosen};
 ghost use Rattle.intersection_set.specs.Lists.{headPlace};
-ghost use Rattle.intersection_set.specs.Pool.{Pool, ends, edges, links, poolOf, edgeAt, headAt, setEnd, setHead, unlinkFrom, putEdges, clearEnds, poolPush, poolRemove, lesser, greater, fill};
-ghost use Rattle.intersection_set.specs.Within.{Proper, EndOk, HeadOk, LinkOk, UnlinkOk, InEdges, Sized, PushOk, RemoveOk};
+ghost use Rattle.intersection_set.specs.Words.{packed, part0, part1, part2, part3, withNext, withPrev};
+ghost use Rattle.intersection_set.specs.Pool.{Pool, edgesOf, nextsOf, prevsOf, linksOf, poolOf, end0, end1, headAt, setEnd, setHead, unlinkFrom, putEdges, putEnds, clearEnds, poolPush, poolRemove, lesser, greater, fill};
+ghost use Rattle.intersection_set.specs.Within.{Proper, EndOk, HeadOk, UnlinkOk, Sized, PushOk, RemoveOk};
 ghost use Rattle.intersection_set.specs.Holds.{Holds, MayPush, Beyond};
 use crate::utils::Counts;
 use crate::utils::NONE;
@@ -81,96 +83,151 @@ fn by_edge(n: usize, e: IndexEdge, heads: &[u16]) -> SparseIndex
     SparseIndex(heads[at])
 }
 
-// The edge whose points stand at i.
-fn edge_at(min: &[u16], max: &[u16], i: usize) -> IndexEdge
-    requires { ⌜ (i < length (now min)) × (i < length (now max)) ⌝ }
-    ensures { λ r. ⌜ edgeOf r ≡ edgeAt (now (min .entry)) (now (max .entry)) i ⌝ }
+// A word of four 16-bit numbers, the first lowest.
+fn pack(a: u16, b: u16, c: u16, d: u16) -> u64
+    ensures { λ r. ⌜ r ≡ packed a b c d ⌝ }
 {
+    (a as u64) + (b as u64) * 65536 + (c as u64) * 4294967296 + (d as u64) * 281474976710656
+}
+
+// The numbers of a word.
+fn low0(w: u64) -> u16
+    ensures { λ r. ⌜ r ≡ part0 w ⌝ }
+{
+    (w % 65536) as u16
+}
+
+fn low1(w: u64) -> u16
+    ensures { λ r. ⌜ r ≡ part1 w ⌝ }
+{
+    (w / 65536 % 65536) as u16
+}
+
+fn low2(w: u64) -> u16
+    ensures { λ r. ⌜ r ≡ part2 w ⌝ }
+{
+    (w / 4294967296 % 65536) as u16
+}
+
+fn low3(w: u64) -> u16
+    ensures { λ r. ⌜ r ≡ part3 w ⌝ }
+{
+    (w / 281474976710656) as u16
+}
+
+// The two edges of the record at i.
+fn edge0_at(ends: &[u64], i: usize) -> IndexEdge
+    requires { ⌜ i < length (now ends) ⌝ }
+    ensures { λ r. ⌜ edgeOf r ≡ end0 (edgesOf (now (ends .entry))) i ⌝ }
+{
+    let w = ends[i];
     IndexEdge {
-        min: PointId(min[i]),
-        max: PointId(max[i]),
+        min: PointId(low0(w)),
+        max: PointId(low1(w)),
     }
 }
 
-// Sets a link of the record s to v, in the end of s that is e (`IndexMut<IndexEdge>`): x0 is edge0's field, x1 edge1's.
-// Nothing where s is no record.
-fn set_end(
-    s: SparseIndex,
-    e: IndexEdge,
-    v: SparseIndex,
-    min0: &[u16],
-    max0: &[u16],
-    x0: &mut [u16],
-    x1: &mut [u16],
-)
-    requires { ⌜ EndOk (s .0) (now min0) (now max0) (ends (now x0) (now x1)) ⌝ }
-    ensures { λ _. ⌜ ends (now (x0 .exit)) (now (x1 .exit)) ≡ setEnd (s .0) (edgeOf e) (v .0) (now (min0 .entry)) (now (max0 .entry)) (ends (now (x0 .entry)) (now (x1 .entry))) ⌝ }
+fn edge1_at(ends: &[u64], i: usize) -> IndexEdge
+    requires { ⌜ i < length (now ends) ⌝ }
+    ensures { λ r. ⌜ edgeOf r ≡ end1 (edgesOf (now (ends .entry))) i ⌝ }
+{
+    let w = ends[i];
+    IndexEdge {
+        min: PointId(low2(w)),
+        max: PointId(low3(w)),
+    }
+}
+
+// Where a word of links has the next link of an end, and the previous one: a factor, so that no branch is taken on the end.
+fn next_unit(first: bool) -> u64
+    ensures { λ r. ⌜ r ≡ cond first 1 4294967296 ⌝ }
+{
+    if first { 1 } else { 4294967296 }
+}
+
+fn prev_unit(first: bool) -> u64
+    ensures { λ r. ⌜ r ≡ cond first 65536 281474976710656 ⌝ }
+{
+    if first { 65536 } else { 281474976710656 }
+}
+
+// A word of links with the next link of one end anew.
+fn with_next(first: bool, w: u64, v: u16) -> u64
+    ensures { λ r. ⌜ r ≡ withNext first w v ⌝ }
+{
+    let unit = next_unit(first);
+    w - (w / unit % 65536) * unit + (v as u64) * unit
+}
+
+// The same for the previous link.
+fn with_prev(first: bool, w: u64, v: u16) -> u64
+    ensures { λ r. ⌜ r ≡ withPrev first w v ⌝ }
+{
+    let unit = prev_unit(first);
+    w - (w / unit % 65536) * unit + (v as u64) * unit
+}
+
+// Sets the next link of the record s to v, in the end of s that is e (`IndexMut<IndexEdge>`). Nothing where s is no record.
+fn set_next(s: SparseIndex, e: IndexEdge, v: SparseIndex, ends: &[u64], links: &mut [u64])
+    requires { ⌜ EndOk (s .0) (edgesOf (now ends) .min0) (edgesOf (now ends) .max0) (nextsOf (now links)) ⌝ }
+    ensures { λ _. ⌜ (nextsOf (now (links .exit)) ≡ setEnd (s .0) (edgeOf e) (v .0) (edgesOf (now (ends .entry)) .min0) (edgesOf (now (ends .entry)) .max0) (nextsOf (now (links .entry)))) × (prevsOf (now (links .exit)) ≡ prevsOf (now (links .entry))) ⌝ }
 {
     if s.is_none() {
         return;
     }
     let i = s.0 as usize;
-    let first = edge_at(min0, max0, i);
-    if e.eq(first) {
-        x0[i] = v.0;
-    } else {
-        x1[i] = v.0;
-    }
+    let first = e.eq(edge0_at(ends, i));
+    let w = links[i];
+    links[i] = with_next(first, w, v.0);
 }
 
-// Puts s in front of an edge's list: its next along that edge becomes the old head, whose previous becomes s.
-// The caller knows which end of s the edge is, and hands over that end's `next`.
-fn link_front(
-    n: usize,
-    e: IndexEdge,
-    s: SparseIndex,
-    min0: &[u16],
-    max0: &[u16],
-    heads: &mut [u16],
-    next: &mut [u16],
-    prev0: &mut [u16],
-    prev1: &mut [u16],
-)
-    requires { ⌜ LinkOk n (edgeOf e) (s .0) (now min0) (now max0) (now heads) (now next) (ends (now prev0) (now prev1)) ⌝ }
-    ensures { λ _. ⌜ (now (heads .exit) ≡ set (now (heads .entry)) (headPlace n (edgeOf e)) (s .0))
-        × (now (next .exit) ≡ set (now (next .entry)) (s .0) (headAt n (edgeOf e) (now (heads .entry))))
-        × (ends (now (prev0 .exit)) (now (prev1 .exit)) ≡ setEnd (headAt n (edgeOf e) (now (heads .entry))) (edgeOf e) (s .0) (now (min0 .entry)) (now (max0 .entry)) (ends (now (prev0 .entry)) (now (prev1 .entry)))) ⌝ }
+// The same for the previous link.
+fn set_prev(s: SparseIndex, e: IndexEdge, v: SparseIndex, ends: &[u64], links: &mut [u64])
+    requires { ⌜ EndOk (s .0) (edgesOf (now ends) .min0) (edgesOf (now ends) .max0) (prevsOf (now links)) ⌝ }
+    ensures { λ _. ⌜ (prevsOf (now (links .exit)) ≡ setEnd (s .0) (edgeOf e) (v .0) (edgesOf (now (ends .entry)) .min0) (edgesOf (now (ends .entry)) .max0) (prevsOf (now (links .entry)))) × (nextsOf (now (links .exit)) ≡ nextsOf (now (links .entry))) ⌝ }
+{
+    if s.is_none() {
+        return;
+    }
+    let i = s.0 as usize;
+    let first = e.eq(edge0_at(ends, i));
+    let w = links[i];
+    links[i] = with_prev(first, w, v.0);
+}
+
+// s becomes the newest record of an edge; answers the one that was it.
+fn take_head(n: usize, e: IndexEdge, s: SparseIndex, heads: &mut [u16]) -> SparseIndex
+    requires { ⌜ HeadOk n (edgeOf e) (now heads) ⌝ }
+    ensures { λ r. ⌜ (r .0 ≡ headAt n (edgeOf e) (now (heads .entry))) × (now (heads .exit) ≡ set (now (heads .entry)) (headPlace n (edgeOf e)) (s .0)) ⌝ }
 {
     let at = place(n, e);
-    let old = SparseIndex(heads[at]);
-    let i = s.0 as usize;
-    next[i] = old.0;
+    let old = heads[at];
     heads[at] = s.0;
-    set_end(old, e, s, min0, max0, prev0, prev1);
+    SparseIndex(old)
 }
 
-// Writes the two edges of a record.
-fn put_edges(
+// Writes the two edges of a record, and that these come next along them, with none in front of it.
+fn put_record(
     s: SparseIndex,
     isect: IndexIntersection,
-    min0: &mut [u16],
-    max0: &mut [u16],
-    min1: &mut [u16],
-    max1: &mut [u16],
+    next0: SparseIndex,
+    next1: SparseIndex,
+    ends: &mut [u64],
+    links: &mut [u64],
 )
-    requires { ⌜ InEdges (s .0) (edges (now min0) (now max0) (now min1) (now max1)) ⌝ }
-    ensures { λ _. ⌜ edges (now (min0 .exit)) (now (max0 .exit)) (now (min1 .exit)) (now (max1 .exit)) ≡ putEdges (s .0) (edgeOf (isect .min)) (edgeOf (isect .max)) (edges (now (min0 .entry)) (now (max0 .entry)) (now (min1 .entry)) (now (max1 .entry))) ⌝ }
+    requires { ⌜ (s .0 < length (now ends)) × (s .0 < length (now links)) ⌝ }
+    ensures { λ _. ⌜ (edgesOf (now (ends .exit)) ≡ putEdges (s .0) (edgeOf (isect .min)) (edgeOf (isect .max)) (edgesOf (now (ends .entry))))
+        × (nextsOf (now (links .exit)) ≡ putEnds (s .0) (next0 .0) (next1 .0) (nextsOf (now (links .entry))))
+        × (prevsOf (now (links .exit)) ≡ clearEnds (s .0) (prevsOf (now (links .entry)))) ⌝ }
 {
     let i = s.0 as usize;
-    min0[i] = isect.min.min.0;
-    max0[i] = isect.min.max.0;
-    min1[i] = isect.max.min.0;
-    max1[i] = isect.max.max.0;
-}
-
-// Writes that no record stands in front of a record in either list.
-fn clear_prev(s: SparseIndex, prev0: &mut [u16], prev1: &mut [u16])
-    requires { ⌜ (s .0 < length (now prev0)) × (s .0 < length (now prev1)) ⌝ }
-    ensures { λ _. ⌜ ends (now (prev0 .exit)) (now (prev1 .exit)) ≡ clearEnds (s .0) (ends (now (prev0 .entry)) (now (prev1 .entry))) ⌝ }
-{
-    let i = s.0 as usize;
-    prev0[i] = NONE;
-    prev1[i] = NONE;
+    ends[i] = pack(
+        isect.min.min.0,
+        isect.min.max.0,
+        isect.max.min.0,
+        isect.max.max.0,
+    );
+    links[i] = pack(next0.0, NONE, next1.0, NONE);
 }
 
 // Records two edges that meet: in a slot of its own, in front of both edges' lists.
@@ -179,30 +236,25 @@ pub fn push(
     isect: IndexIntersection,
     c: Counts,
     heads: &mut [u16],
-    min0: &mut [u16],
-    max0: &mut [u16],
-    next0: &mut [u16],
-    prev0: &mut [u16],
-    min1: &mut [u16],
-    max1: &mut [u16],
-    next1: &mut [u16],
-    prev1: &mut [u16],
+    ends: &mut [u64],
+    links: &mut [u64],
     dense: &mut [u16],
     reverse: &mut [u16],
     free: &[u16],
 ) -> Counts
-    requires { ⌜ PushOk n (edgeOf (isect .min)) (edgeOf (isect .max)) (poolOf (now heads) (now min0) (now max0) (now next0) (now prev0) (now min1) (now max1) (now next1) (now prev1) (now dense) (now reverse) (now free) c) ⌝ }
-    ensures { λ r. ⌜ poolOf (now (heads .exit)) (now (min0 .exit)) (now (max0 .exit)) (now (next0 .exit)) (now (prev0 .exit)) (now (min1 .exit)) (now (max1 .exit)) (now (next1 .exit)) (now (prev1 .exit)) (now (dense .exit)) (now (reverse .exit)) (now (free .entry)) r
-        ≡ poolPush n (edgeOf (isect .min)) (edgeOf (isect .max)) (poolOf (now (heads .entry)) (now (min0 .entry)) (now (max0 .entry)) (now (next0 .entry)) (now (prev0 .entry)) (now (min1 .entry)) (now (max1 .entry)) (now (next1 .entry)) (now (prev1 .entry)) (now (dense .entry)) (now (reverse .entry)) (now (free .entry)) c) ⌝ }
+    requires { ⌜ PushOk n (edgeOf (isect .min)) (edgeOf (isect .max)) (poolOf (now heads) (now ends) (now links) (now dense) (now reverse) (now free) c) ⌝ }
+    ensures { λ r. ⌜ poolOf (now (heads .exit)) (now (ends .exit)) (now (links .exit)) (now (dense .exit)) (now (reverse .exit)) (now (free .entry)) r
+        ≡ poolPush n (edgeOf (isect .min)) (edgeOf (isect .max)) (poolOf (now (heads .entry)) (now (ends .entry)) (now (links .entry)) (now (dense .entry)) (now (reverse .entry)) (now (free .entry)) c) ⌝ }
 {
     let t = alloc(c, dense, reverse, free);
     let s = t.slot;
-    put_edges(s, isect, min0, max0, min1, max1);
-    clear_prev(s, prev0, prev1);
     let e0 = isect.min;
     let e1 = isect.max;
-    link_front(n, e0, s, min0, max0, heads, next0, prev0, prev1);
-    link_front(n, e1, s, min0, max0, heads, next1, prev0, prev1);
+    let next0 = take_head(n, e0, s, heads);
+    let next1 = take_head(n, e1, s, heads);
+    put_record(s, isect, next0, next1, ends, links);
+    set_prev(next0, e0, s, ends, links);
+    set_prev(next1, e1, s, ends, links);
     t.counts
 }
 
@@ -214,22 +266,16 @@ pub fn push_if(
     b: IndexEdge,
     c: Counts,
     heads: &mut [u16],
-    min0: &mut [u16],
-    max0: &mut [u16],
-    next0: &mut [u16],
-    prev0: &mut [u16],
-    min1: &mut [u16],
-    max1: &mut [u16],
-    next1: &mut [u16],
-    prev1: &mut [u16],
+    ends: &mut [u64],
+    links: &mut [u64],
     dense: &mut [u16],
     reverse: &mut [u16],
     free: &[u16],
 ) -> Counts
-    requires { ⌜ (ok ≡ true → ((s : Store) × Holds n (poolOf (now heads) (now min0) (now max0) (now next0) (now prev0) (now min1) (now max1) (now next1) (now prev1) (now dense) (now reverse) (now free) c) s × MayPush n (edgeOf a) (edgeOf b) s)) ⌝ }
-    ensures { λ r. ⌜ ((s : Store) → Holds n (poolOf (now (heads .entry)) (now (min0 .entry)) (now (max0 .entry)) (now (next0 .entry)) (now (prev0 .entry)) (now (min1 .entry)) (now (max1 .entry)) (now (next1 .entry)) (now (prev1 .entry)) (now (dense .entry)) (now (reverse .entry)) (now (free .entry)) c) s → (ok ≡ true → MayPush n (edgeOf a) (edgeOf b) s)
-        → Holds n (poolOf (now (heads .exit)) (now (min0 .exit)) (now (max0 .exit)) (now (next0 .exit)) (now (prev0 .exit)) (now (min1 .exit)) (now (max1 .exit)) (now (next1 .exit)) (now (prev1 .exit)) (now (dense .exit)) (now (reverse .exit)) (now (free .entry)) r) (cond ok (pushed (edgeOf a) (edgeOf b) s) s))
-        × Beyond (n * (n - 1)) (poolOf (now (heads .exit)) (now (min0 .exit)) (now (max0 .exit)) (now (next0 .exit)) (now (prev0 .exit)) (now (min1 .exit)) (now (max1 .exit)) (now (next1 .exit)) (now (prev1 .exit)) (now (dense .exit)) (now (reverse .exit)) (now (free .entry)) r) (poolOf (now (heads .entry)) (now (min0 .entry)) (now (max0 .entry)) (now (next0 .entry)) (now (prev0 .entry)) (now (min1 .entry)) (now (max1 .entry)) (now (next1 .entry)) (now (prev1 .entry)) (now (dense .entry)) (now (reverse .entry)) (now (free .entry)) c) ⌝ }
+    requires { ⌜ (ok ≡ true → ((s : Store) × Holds n (poolOf (now heads) (now ends) (now links) (now dense) (now reverse) (now free) c) s × MayPush n (edgeOf a) (edgeOf b) s)) ⌝ }
+    ensures { λ r. ⌜ ((s : Store) → Holds n (poolOf (now (heads .entry)) (now (ends .entry)) (now (links .entry)) (now (dense .entry)) (now (reverse .entry)) (now (free .entry)) c) s → (ok ≡ true → MayPush n (edgeOf a) (edgeOf b) s)
+        → Holds n (poolOf (now (heads .exit)) (now (ends .exit)) (now (links .exit)) (now (dense .exit)) (now (reverse .exit)) (now (free .entry)) r) (cond ok (pushed (edgeOf a) (edgeOf b) s) s))
+        × Beyond (n * (n - 1)) (poolOf (now (heads .exit)) (now (ends .exit)) (now (links .exit)) (now (dense .exit)) (now (reverse .exit)) (now (free .entry)) r) (poolOf (now (heads .entry)) (now (ends .entry)) (now (links .entry)) (now (dense .entry)) (now (reverse .entry)) (now (free .entry)) c) ⌝ }
 {
     if ok {
         let isect = IndexIntersection::new(a, b);
@@ -238,14 +284,8 @@ pub fn push_if(
             isect,
             c,
             heads,
-            min0,
-            max0,
-            next0,
-            prev0,
-            min1,
-            max1,
-            next1,
-            prev1,
+            ends,
+            links,
             dense,
             reverse,
             free,
@@ -272,21 +312,16 @@ fn unlink(
     e: IndexEdge,
     next: SparseIndex,
     prev: SparseIndex,
-    min0: &[u16],
-    max0: &[u16],
     heads: &mut [u16],
-    next0: &mut [u16],
-    prev0: &mut [u16],
-    next1: &mut [u16],
-    prev1: &mut [u16],
+    ends: &[u64],
+    links: &mut [u64],
 )
-    requires { ⌜ UnlinkOk n (edgeOf e) (next .0) (prev .0) (now min0) (now max0) (links (now heads) (now next0) (now prev0) (now next1) (now prev1)) ⌝ }
-    ensures { λ _. ⌜ links (now (heads .exit)) (now (next0 .exit)) (now (prev0 .exit)) (now (next1 .exit)) (now (prev1 .exit))
-        ≡ unlinkFrom n (edgeOf e) (next .0) (prev .0) (now (min0 .entry)) (now (max0 .entry)) (links (now (heads .entry)) (now (next0 .entry)) (now (prev0 .entry)) (now (next1 .entry)) (now (prev1 .entry))) ⌝ }
+    requires { ⌜ UnlinkOk n (edgeOf e) (next .0) (prev .0) (edgesOf (now ends) .min0) (edgesOf (now ends) .max0) (linksOf (now heads) (now links)) ⌝ }
+    ensures { λ _. ⌜ linksOf (now (heads .exit)) (now (links .exit)) ≡ unlinkFrom n (edgeOf e) (next .0) (prev .0) (edgesOf (now (ends .entry)) .min0) (edgesOf (now (ends .entry)) .max0) (linksOf (now (heads .entry)) (now (links .entry))) ⌝ }
 {
     set_head(n, e, next, prev, heads);
-    set_end(prev, e, next, min0, max0, next0, next1);
-    set_end(next, e, prev, min0, max0, prev0, prev1);
+    set_next(prev, e, next, ends, links);
+    set_prev(next, e, prev, ends, links);
 }
 
 // Removes a record: out of both edges' lists and the dense order, and its slot is free.
@@ -295,31 +330,26 @@ fn remove(
     s: SparseIndex,
     c: Counts,
     heads: &mut [u16],
-    min0: &[u16],
-    max0: &[u16],
-    next0: &mut [u16],
-    prev0: &mut [u16],
-    min1: &[u16],
-    max1: &[u16],
-    next1: &mut [u16],
-    prev1: &mut [u16],
+    ends: &[u64],
+    links: &mut [u64],
     dense: &mut [u16],
     reverse: &mut [u16],
     free: &mut [u16],
 ) -> Counts
-    requires { ⌜ RemoveOk n (s .0) (poolOf (now heads) (now min0) (now max0) (now next0) (now prev0) (now min1) (now max1) (now next1) (now prev1) (now dense) (now reverse) (now free) c) ⌝ }
-    ensures { λ r. ⌜ poolOf (now (heads .exit)) (now (min0 .entry)) (now (max0 .entry)) (now (next0 .exit)) (now (prev0 .exit)) (now (min1 .entry)) (now (max1 .entry)) (now (next1 .exit)) (now (prev1 .exit)) (now (dense .exit)) (now (reverse .exit)) (now (free .exit)) r
-        ≡ poolRemove n (s .0) (poolOf (now (heads .entry)) (now (min0 .entry)) (now (max0 .entry)) (now (next0 .entry)) (now (prev0 .entry)) (now (min1 .entry)) (now (max1 .entry)) (now (next1 .entry)) (now (prev1 .entry)) (now (dense .entry)) (now (reverse .entry)) (now (free .entry)) c) ⌝ }
+    requires { ⌜ RemoveOk n (s .0) (poolOf (now heads) (now ends) (now links) (now dense) (now reverse) (now free) c) ⌝ }
+    ensures { λ r. ⌜ poolOf (now (heads .exit)) (now (ends .entry)) (now (links .exit)) (now (dense .exit)) (now (reverse .exit)) (now (free .exit)) r
+        ≡ poolRemove n (s .0) (poolOf (now (heads .entry)) (now (ends .entry)) (now (links .entry)) (now (dense .entry)) (now (reverse .entry)) (now (free .entry)) c) ⌝ }
 {
     let i = s.0 as usize;
-    let e0 = edge_at(min0, max0, i);
-    let e1 = edge_at(min1, max1, i);
-    let n0 = SparseIndex(next0[i]);
-    let p0 = SparseIndex(prev0[i]);
-    let n1 = SparseIndex(next1[i]);
-    let p1 = SparseIndex(prev1[i]);
-    unlink(n, e0, n0, p0, min0, max0, heads, next0, prev0, next1, prev1);
-    unlink(n, e1, n1, p1, min0, max0, heads, next0, prev0, next1, prev1);
+    let e0 = edge0_at(ends, i);
+    let e1 = edge1_at(ends, i);
+    let w = links[i];
+    let n0 = SparseIndex(low0(w));
+    let p0 = SparseIndex(low1(w));
+    let n1 = SparseIndex(low2(w));
+    let p1 = SparseIndex(low3(w));
+    unlink(n, e0, n0, p0, heads, ends, links);
+    unlink(n, e1, n1, p1, heads, ends, links);
     release(s, c, dense, reverse, free)
 }
 
@@ -329,22 +359,16 @@ pub fn remove_all(
     e: IndexEdge,
     c: Counts,
     heads: &mut [u16],
-    min0: &[u16],
-    max0: &[u16],
-    next0: &mut [u16],
-    prev0: &mut [u16],
-    min1: &[u16],
-    max1: &[u16],
-    next1: &mut [u16],
-    prev1: &mut [u16],
+    ends: &[u64],
+    links: &mut [u64],
     dense: &mut [u16],
     reverse: &mut [u16],
     free: &mut [u16],
 ) -> Counts
-    requires { ⌜ Proper n (edgeOf e) × ((s : Store) × Holds n (poolOf (now heads) (now min0) (now max0) (now next0) (now prev0) (now min1) (now max1) (now next1) (now prev1) (now dense) (now reverse) (now free) c) s) ⌝ }
-    ensures { λ r. ⌜ ((s : Store) → Holds n (poolOf (now (heads .entry)) (now (min0 .entry)) (now (max0 .entry)) (now (next0 .entry)) (now (prev0 .entry)) (now (min1 .entry)) (now (max1 .entry)) (now (next1 .entry)) (now (prev1 .entry)) (now (dense .entry)) (now (reverse .entry)) (now (free .entry)) c) s
-        → Holds n (poolOf (now (heads .exit)) (now (min0 .entry)) (now (max0 .entry)) (now (next0 .exit)) (now (prev0 .exit)) (now (min1 .entry)) (now (max1 .entry)) (now (next1 .exit)) (now (prev1 .exit)) (now (dense .exit)) (now (reverse .exit)) (now (free .exit)) r) (allRemoved (edgeOf e) s))
-        × Beyond (n * (n - 1)) (poolOf (now (heads .exit)) (now (min0 .entry)) (now (max0 .entry)) (now (next0 .exit)) (now (prev0 .exit)) (now (min1 .entry)) (now (max1 .entry)) (now (next1 .exit)) (now (prev1 .exit)) (now (dense .exit)) (now (reverse .exit)) (now (free .exit)) r) (poolOf (now (heads .entry)) (now (min0 .entry)) (now (max0 .entry)) (now (next0 .entry)) (now (prev0 .entry)) (now (min1 .entry)) (now (max1 .entry)) (now (next1 .entry)) (now (prev1 .entry)) (now (dense .entry)) (now (reverse .entry)) (now (free .entry)) c) ⌝ }
+    requires { ⌜ Proper n (edgeOf e) × ((s : Store) × Holds n (poolOf (now heads) (now ends) (now links) (now dense) (now reverse) (now free) c) s) ⌝ }
+    ensures { λ r. ⌜ ((s : Store) → Holds n (poolOf (now (heads .entry)) (now (ends .entry)) (now (links .entry)) (now (dense .entry)) (now (reverse .entry)) (now (free .entry)) c) s
+        → Holds n (poolOf (now (heads .exit)) (now (ends .entry)) (now (links .exit)) (now (dense .exit)) (now (reverse .exit)) (now (free .exit)) r) (allRemoved (edgeOf e) s))
+        × Beyond (n * (n - 1)) (poolOf (now (heads .exit)) (now (ends .entry)) (now (links .exit)) (now (dense .exit)) (now (reverse .exit)) (now (free .exit)) r) (poolOf (now (heads .entry)) (now (ends .entry)) (now (links .entry)) (now (dense .entry)) (now (reverse .entry)) (now (free .entry)) c) ⌝ }
 {
     let mut k = c;
     let mut newest = by_edge(n, e, heads);
@@ -354,14 +378,8 @@ pub fn remove_all(
             newest,
             k,
             heads,
-            min0,
-            max0,
-            next0,
-            prev0,
-            min1,
-            max1,
-            next1,
-            prev1,
+            ends,
+            links,
             dense,
             reverse,
             free,
@@ -375,14 +393,11 @@ pub fn remove_all(
 pub fn random(
     pick: u32,
     c: Counts,
-    min0: &[u16],
-    max0: &[u16],
-    min1: &[u16],
-    max1: &[u16],
+    ends: &[u64],
     dense: &[u16],
 ) -> IndexIntersection
-    requires { ⌜ (0 < c .live) × ((n : ℕ) × (p : Pool) × (s : Store) × Holds n p s × (p .edges ≡ edges (now min0) (now max0) (now min1) (now max1)) × (p .order .dense ≡ now dense) × (p .counts ≡ c)) ⌝ }
-    ensures { λ r. ⌜ ((n : ℕ) (p : Pool) (s : Store) → Holds n p s → p .edges ≡ edges (now (min0 .entry)) (now (max0 .entry)) (now (min1 .entry)) (now (max1 .entry)) → p .order .dense ≡ now (dense .entry) → p .counts ≡ c
+    requires { ⌜ (0 < c .live) × ((n : ℕ) × (p : Pool) × (s : Store) × Holds n p s × (p .edges ≡ edgesOf (now ends)) × (p .order .dense ≡ now dense) × (p .counts ≡ c)) ⌝ }
+    ensures { λ r. ⌜ ((n : ℕ) (p : Pool) (s : Store) → Holds n p s → p .edges ≡ edgesOf (now (ends .entry)) → p .order .dense ≡ now (dense .entry) → p .counts ≡ c
         → (edgeOf (r .min) ≡ getD (s .dense) (chosen pick s) noRec .e0) × (edgeOf (r .max) ≡ getD (s .dense) (chosen pick s) noRec .e1)) ⌝ }
 {
     let live = c.live;
@@ -390,7 +405,7 @@ pub fn random(
     let s = SparseIndex(dense[at]);
     let i = s.0 as usize;
     IndexIntersection {
-        min: edge_at(min0, max0, i),
-        max: edge_at(min1, max1, i),
+        min: edge0_at(ends, i),
+        max: edge1_at(ends, i),
     }
 }

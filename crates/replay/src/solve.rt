@@ -26,31 +26,26 @@ fn write_order(n: usize, ring: &[u16], line: &mut [u8]) {
 }
 
 // The record in slot s.
-fn write_slot(slot: u16, min0: &[u16], max0: &[u16], min1: &[u16], max1: &[u16], line: &mut [u8]) {
+fn write_slot(slot: u16, ends: &[u64], line: &mut [u8]) {
     let s = slot as usize;
-    if s >= min0.len() {
+    if s >= ends.len() {
         return;
     }
-    if s >= max0.len() {
-        return;
-    }
-    if s >= min1.len() {
-        return;
-    }
-    if s >= max1.len() {
-        return;
-    }
-    write_record(min0[s], max0[s], min1[s], max1[s], line);
+    let w = ends[s];
+    write_record(
+        (w % 65536) as u16,
+        (w / 65536 % 65536) as u16,
+        (w / 4294967296 % 65536) as u16,
+        (w / 281474976710656) as u16,
+        line,
+    );
 }
 
 // The first `left` records in dense order.
 fn write_records(
     left: usize,
     dense: &[u16],
-    min0: &[u16],
-    max0: &[u16],
-    min1: &[u16],
-    max1: &[u16],
+    ends: &[u64],
     line: &mut [u8],
 ) {
     let mut i = 0usize;
@@ -58,7 +53,7 @@ fn write_records(
         if i >= left {
             return;
         }
-        write_slot(dense[i], min0, max0, min1, max1, line);
+        write_slot(dense[i], ends, line);
         i += 1;
     }
 }
@@ -69,10 +64,7 @@ fn write_answer(
     n: usize,
     ring: &[u16],
     dense: &[u16; 65280],
-    min0: &[u16; 65280],
-    max0: &[u16; 65280],
-    min1: &[u16; 65280],
-    max1: &[u16; 65280],
+    ends: &[u64; 65280],
     line: &mut [u8],
 ) {
     match answer {
@@ -83,7 +75,7 @@ fn write_answer(
         Answer::Stopped { moves, left } => {
             write_stopped(moves as u64, left as u64, line);
             write_order(n, ring, line);
-            write_records(left, dense, min0, max0, min1, max1, line);
+            write_records(left, dense, ends, line);
         }
         Answer::Refused { number } => write_refused(number as u64, line),
     }
@@ -101,14 +93,8 @@ fn run(
 ) {
     let mut index = [1u16; 256];
     let mut heads = [2u16; 65280];
-    let mut min0 = [3u16; 65280];
-    let mut max0 = [4u16; 65280];
-    let mut next0 = [5u16; 65280];
-    let mut prev0 = [6u16; 65280];
-    let mut min1 = [7u16; 65280];
-    let mut max1 = [8u16; 65280];
-    let mut next1 = [9u16; 65280];
-    let mut prev1 = [10u16; 65280];
+    let mut ends = [3u64; 65280];
+    let mut links = [5u64; 65280];
     let mut dense = [11u16; 65280];
     let mut reverse = [12u16; 65280];
     let mut free = [13u16; 65280];
@@ -121,14 +107,8 @@ fn run(
             ring,
             &mut index,
             &mut heads,
-            &mut min0,
-            &mut max0,
-            &mut next0,
-            &mut prev0,
-            &mut min1,
-            &mut max1,
-            &mut next1,
-            &mut prev1,
+            &mut ends,
+            &mut links,
             &mut dense,
             &mut reverse,
             &mut free,
@@ -142,20 +122,14 @@ fn run(
             ring,
             &mut index,
             &mut heads,
-            &mut min0,
-            &mut max0,
-            &mut next0,
-            &mut prev0,
-            &mut min1,
-            &mut max1,
-            &mut next1,
-            &mut prev1,
+            &mut ends,
+            &mut links,
             &mut dense,
             &mut reverse,
             &mut free,
         )
     };
-    write_answer(answer, n, ring, &dense, &min0, &max0, &min1, &max1, line);
+    write_answer(answer, n, ring, &dense, &ends, line);
 }
 
 // The bytes of a case's ring.

@@ -48,22 +48,16 @@ pub fn resolve(
     ring: &mut [u16],
     index: &mut [u16],
     heads: &mut [u16],
-    min0: &mut [u16],
-    max0: &mut [u16],
-    next0: &mut [u16],
-    prev0: &mut [u16],
-    min1: &mut [u16],
-    max1: &mut [u16],
-    next1: &mut [u16],
-    prev1: &mut [u16],
+    ends: &mut [u64],
+    links: &mut [u64],
     dense: &mut [u16],
     reverse: &mut [u16],
     free: &mut [u16],
 ) -> Resolved
-    requires { ⌜ Lent n (now x) (now y) × (refusal n (points (now x) (now y)) false (now ring) ≡ 0) × (now index ≡ indexOf n (now ring)) × ((c : Counts) → Sized n (poolOf (now heads) (now min0) (now max0) (now next0) (now prev0) (now min1) (now max1) (now next1) (now prev1) (now dense) (now reverse) (now free) c)) ⌝ }
+    requires { ⌜ Lent n (now x) (now y) × (refusal n (points (now x) (now y)) false (now ring) ≡ 0) × (now index ≡ indexOf n (now ring)) × ((c : Counts) → Sized n (poolOf (now heads) (now ends) (now links) (now dense) (now reverse) (now free) c)) ⌝ }
     ensures { λ k. ⌜ Counted n (points (now (x .entry)) (now (y .entry))) (now (ring .entry)) (now (picks .entry)) (k .moves) (k .cross) (k .left)
-        × ((c : Counts) → Ended n (points (now (x .entry)) (now (y .entry))) (now (ring .entry)) (now (picks .entry)) (now (ring .exit)) (now (index .exit)) (poolOf (now (heads .exit)) (now (min0 .exit)) (now (max0 .exit)) (now (next0 .exit)) (now (prev0 .exit)) (now (min1 .exit)) (now (max1 .exit)) (now (next1 .exit)) (now (prev1 .exit)) (now (dense .exit)) (now (reverse .exit)) (now (free .exit)) c))
-        × ((c : Counts) → Beyond (n * (n - 1)) (poolOf (now (heads .exit)) (now (min0 .exit)) (now (max0 .exit)) (now (next0 .exit)) (now (prev0 .exit)) (now (min1 .exit)) (now (max1 .exit)) (now (next1 .exit)) (now (prev1 .exit)) (now (dense .exit)) (now (reverse .exit)) (now (free .exit)) c) (poolOf (now (heads .entry)) (now (min0 .entry)) (now (max0 .entry)) (now (next0 .entry)) (now (prev0 .entry)) (now (min1 .entry)) (now (max1 .entry)) (now (next1 .entry)) (now (prev1 .entry)) (now (dense .entry)) (now (reverse .entry)) (now (free .entry)) c)) ⌝ }
+        × ((c : Counts) → Ended n (points (now (x .entry)) (now (y .entry))) (now (ring .entry)) (now (picks .entry)) (now (ring .exit)) (now (index .exit)) (poolOf (now (heads .exit)) (now (ends .exit)) (now (links .exit)) (now (dense .exit)) (now (reverse .exit)) (now (free .exit)) c))
+        × ((c : Counts) → Beyond (n * (n - 1)) (poolOf (now (heads .exit)) (now (ends .exit)) (now (links .exit)) (now (dense .exit)) (now (reverse .exit)) (now (free .exit)) c) (poolOf (now (heads .entry)) (now (ends .entry)) (now (links .entry)) (now (dense .entry)) (now (reverse .entry)) (now (free .entry)) c)) ⌝ }
 {
     let started = begin(
         n,
@@ -71,14 +65,8 @@ pub fn resolve(
         y,
         ring,
         heads,
-        min0,
-        max0,
-        next0,
-        prev0,
-        min1,
-        max1,
-        next1,
-        prev1,
+        ends,
+        links,
         dense,
         reverse,
         free,
@@ -92,14 +80,8 @@ pub fn resolve(
         index,
         started,
         heads,
-        min0,
-        max0,
-        next0,
-        prev0,
-        min1,
-        max1,
-        next1,
-        prev1,
+        ends,
+        links,
         dense,
         reverse,
         free,

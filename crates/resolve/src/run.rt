@@ -45,21 +45,15 @@ pub fn begin(
     y: &[i32],
     ring: &[u16],
     heads: &mut [u16],
-    min0: &mut [u16],
-    max0: &mut [u16],
-    next0: &mut [u16],
-    prev0: &mut [u16],
-    min1: &mut [u16],
-    max1: &mut [u16],
-    next1: &mut [u16],
-    prev1: &mut [u16],
+    ends: &mut [u64],
+    links: &mut [u64],
     dense: &mut [u16],
     reverse: &mut [u16],
     free: &[u16],
 ) -> Counts
-    requires { ⌜ Lent n (now x) (now y) × (refusal n (points (now x) (now y)) false (now ring) ≡ 0) × ((c : Counts) → Sized n (poolOf (now heads) (now min0) (now max0) (now next0) (now prev0) (now min1) (now max1) (now next1) (now prev1) (now dense) (now reverse) (now free) c)) ⌝ }
-    ensures { λ k. ⌜ Holds n (poolOf (now (heads .exit)) (now (min0 .exit)) (now (max0 .exit)) (now (next0 .exit)) (now (prev0 .exit)) (now (min1 .exit)) (now (max1 .exit)) (now (next1 .exit)) (now (prev1 .exit)) (now (dense .exit)) (now (reverse .exit)) (now (free .entry)) k) (start n (points (now (x .entry)) (now (y .entry))) (now (ring .entry)))
-        × ((c : Counts) → Beyond (n * (n - 1)) (poolOf (now (heads .exit)) (now (min0 .exit)) (now (max0 .exit)) (now (next0 .exit)) (now (prev0 .exit)) (now (min1 .exit)) (now (max1 .exit)) (now (next1 .exit)) (now (prev1 .exit)) (now (dense .exit)) (now (reverse .exit)) (now (free .entry)) k) (poolOf (now (heads .entry)) (now (min0 .entry)) (now (max0 .entry)) (now (next0 .entry)) (now (prev0 .entry)) (now (min1 .entry)) (now (max1 .entry)) (now (next1 .entry)) (now (prev1 .entry)) (now (dense .entry)) (now (reverse .entry)) (now (free .entry)) c)) ⌝ }
+    requires { ⌜ Lent n (now x) (now y) × (refusal n (points (now x) (now y)) false (now ring) ≡ 0) × ((c : Counts) → Sized n (poolOf (now heads) (now ends) (now links) (now dense) (now reverse) (now free) c)) ⌝ }
+    ensures { λ k. ⌜ Holds n (poolOf (now (heads .exit)) (now (ends .exit)) (now (links .exit)) (now (dense .exit)) (now (reverse .exit)) (now (free .entry)) k) (start n (points (now (x .entry)) (now (y .entry))) (now (ring .entry)))
+        × ((c : Counts) → Beyond (n * (n - 1)) (poolOf (now (heads .exit)) (now (ends .exit)) (now (links .exit)) (now (dense .exit)) (now (reverse .exit)) (now (free .entry)) k) (poolOf (now (heads .entry)) (now (ends .entry)) (now (links .entry)) (now (dense .entry)) (now (reverse .entry)) (now (free .entry)) c)) ⌝ }
 {
     let none = clear(n, heads);
     sweeps(
@@ -71,14 +65,8 @@ pub fn begin(
         ring,
         none,
         heads,
-        min0,
-        max0,
-        next0,
-        prev0,
-        min1,
-        max1,
-        next1,
-        prev1,
+        ends,
+        links,
         dense,
         reverse,
         free,
@@ -108,30 +96,24 @@ pub fn run(
     index: &mut [u16],
     c: Counts,
     heads: &mut [u16],
-    min0: &mut [u16],
-    max0: &mut [u16],
-    next0: &mut [u16],
-    prev0: &mut [u16],
-    min1: &mut [u16],
-    max1: &mut [u16],
-    next1: &mut [u16],
-    prev1: &mut [u16],
+    ends: &mut [u64],
+    links: &mut [u64],
     dense: &mut [u16],
     reverse: &mut [u16],
     free: &mut [u16],
 ) -> Moved
-    requires { ⌜ Lent n (now x) (now y) × ((r : List ℕ) × Running n (points (now x) (now y)) r [] (now ring) (now index) (poolOf (now heads) (now min0) (now max0) (now next0) (now prev0) (now min1) (now max1) (now next1) (now prev1) (now dense) (now reverse) (now free) c)) ⌝ }
-    ensures { λ k. ⌜ ((r : List ℕ) → Running n (points (now (x .entry)) (now (y .entry))) r [] (now (ring .entry)) (now (index .entry)) (poolOf (now (heads .entry)) (now (min0 .entry)) (now (max0 .entry)) (now (next0 .entry)) (now (prev0 .entry)) (now (min1 .entry)) (now (max1 .entry)) (now (next1 .entry)) (now (prev1 .entry)) (now (dense .entry)) (now (reverse .entry)) (now (free .entry)) c)
-        → Running n (points (now (x .entry)) (now (y .entry))) r (now (picks .entry)) (now (ring .exit)) (now (index .exit)) (poolOf (now (heads .exit)) (now (min0 .exit)) (now (max0 .exit)) (now (next0 .exit)) (now (prev0 .exit)) (now (min1 .exit)) (now (max1 .exit)) (now (next1 .exit)) (now (prev1 .exit)) (now (dense .exit)) (now (reverse .exit)) (now (free .exit)) (k .counts))
+    requires { ⌜ Lent n (now x) (now y) × ((r : List ℕ) × Running n (points (now x) (now y)) r [] (now ring) (now index) (poolOf (now heads) (now ends) (now links) (now dense) (now reverse) (now free) c)) ⌝ }
+    ensures { λ k. ⌜ ((r : List ℕ) → Running n (points (now (x .entry)) (now (y .entry))) r [] (now (ring .entry)) (now (index .entry)) (poolOf (now (heads .entry)) (now (ends .entry)) (now (links .entry)) (now (dense .entry)) (now (reverse .entry)) (now (free .entry)) c)
+        → Running n (points (now (x .entry)) (now (y .entry))) r (now (picks .entry)) (now (ring .exit)) (now (index .exit)) (poolOf (now (heads .exit)) (now (ends .exit)) (now (links .exit)) (now (dense .exit)) (now (reverse .exit)) (now (free .exit)) (k .counts))
         × (length (after n (points (now (x .entry)) (now (y .entry))) place (now (picks .entry)) r .log) ≡ k .moves))
-        × Beyond (n * (n - 1)) (poolOf (now (heads .exit)) (now (min0 .exit)) (now (max0 .exit)) (now (next0 .exit)) (now (prev0 .exit)) (now (min1 .exit)) (now (max1 .exit)) (now (next1 .exit)) (now (prev1 .exit)) (now (dense .exit)) (now (reverse .exit)) (now (free .exit)) (k .counts)) (poolOf (now (heads .entry)) (now (min0 .entry)) (now (max0 .entry)) (now (next0 .entry)) (now (prev0 .entry)) (now (min1 .entry)) (now (max1 .entry)) (now (next1 .entry)) (now (prev1 .entry)) (now (dense .entry)) (now (reverse .entry)) (now (free .entry)) c) ⌝ }
+        × Beyond (n * (n - 1)) (poolOf (now (heads .exit)) (now (ends .exit)) (now (links .exit)) (now (dense .exit)) (now (reverse .exit)) (now (free .exit)) (k .counts)) (poolOf (now (heads .entry)) (now (ends .entry)) (now (links .entry)) (now (dense .entry)) (now (reverse .entry)) (now (free .entry)) c) ⌝ }
 {
     let m = picks.len();
     let mut k = c;
     let mut i: usize = 0;
     let mut more = goes_on(i, m, k.live);
     while more {
-        let isect = random(picks[i], k, min0, max0, min1, max1, dense);
+        let isect = random(picks[i], k, ends, dense);
         k = untangle(
             n,
             isect,
@@ -141,14 +123,8 @@ pub fn run(
             index,
             k,
             heads,
-            min0,
-            max0,
-            next0,
-            prev0,
-            min1,
-            max1,
-            next1,
-            prev1,
+            ends,
+            links,
             dense,
             reverse,
             free,

@@ -38,22 +38,16 @@ pub fn sweep(
     ring: &[u16],
     c: Counts,
     heads: &mut [u16],
-    min0: &mut [u16],
-    max0: &mut [u16],
-    next0: &mut [u16],
-    prev0: &mut [u16],
-    min1: &mut [u16],
-    max1: &mut [u16],
-    next1: &mut [u16],
-    prev1: &mut [u16],
+    ends: &mut [u64],
+    links: &mut [u64],
     dense: &mut [u16],
     reverse: &mut [u16],
     free: &[u16],
 ) -> Counts
-    requires { ⌜ Lent n (now x) (now y) × IsRing n (now ring) × Board n (points (now x) (now y)) × Proper n (edgeOf edge) × ((s : Store) × Holds n (poolOf (now heads) (now min0) (now max0) (now next0) (now prev0) (now min1) (now max1) (now next1) (now prev1) (now dense) (now reverse) (now free) c) s × Fits n (points (now x) (now y)) (now ring) moves (edgeOf edge) s) ⌝ }
-    ensures { λ r. ⌜ ((s : Store) → Holds n (poolOf (now (heads .entry)) (now (min0 .entry)) (now (max0 .entry)) (now (next0 .entry)) (now (prev0 .entry)) (now (min1 .entry)) (now (max1 .entry)) (now (next1 .entry)) (now (prev1 .entry)) (now (dense .entry)) (now (reverse .entry)) (now (free .entry)) c) s → Fits n (points (now (x .entry)) (now (y .entry))) (now (ring .entry)) moves (edgeOf edge) s
-        → Holds n (poolOf (now (heads .exit)) (now (min0 .exit)) (now (max0 .exit)) (now (next0 .exit)) (now (prev0 .exit)) (now (min1 .exit)) (now (max1 .exit)) (now (next1 .exit)) (now (prev1 .exit)) (now (dense .exit)) (now (reverse .exit)) (now (free .entry)) r) (sweepOver (points (now (x .entry)) (now (y .entry))) moves (edgeOf edge) (edges n (now (ring .entry))) s))
-        × Beyond (n * (n - 1)) (poolOf (now (heads .exit)) (now (min0 .exit)) (now (max0 .exit)) (now (next0 .exit)) (now (prev0 .exit)) (now (min1 .exit)) (now (max1 .exit)) (now (next1 .exit)) (now (prev1 .exit)) (now (dense .exit)) (now (reverse .exit)) (now (free .entry)) r) (poolOf (now (heads .entry)) (now (min0 .entry)) (now (max0 .entry)) (now (next0 .entry)) (now (prev0 .entry)) (now (min1 .entry)) (now (max1 .entry)) (now (next1 .entry)) (now (prev1 .entry)) (now (dense .entry)) (now (reverse .entry)) (now (free .entry)) c) ⌝ }
+    requires { ⌜ Lent n (now x) (now y) × IsRing n (now ring) × Board n (points (now x) (now y)) × Proper n (edgeOf edge) × ((s : Store) × Holds n (poolOf (now heads) (now ends) (now links) (now dense) (now reverse) (now free) c) s × Fits n (points (now x) (now y)) (now ring) moves (edgeOf edge) s) ⌝ }
+    ensures { λ r. ⌜ ((s : Store) → Holds n (poolOf (now (heads .entry)) (now (ends .entry)) (now (links .entry)) (now (dense .entry)) (now (reverse .entry)) (now (free .entry)) c) s → Fits n (points (now (x .entry)) (now (y .entry))) (now (ring .entry)) moves (edgeOf edge) s
+        → Holds n (poolOf (now (heads .exit)) (now (ends .exit)) (now (links .exit)) (now (dense .exit)) (now (reverse .exit)) (now (free .entry)) r) (sweepOver (points (now (x .entry)) (now (y .entry))) moves (edgeOf edge) (edges n (now (ring .entry))) s))
+        × Beyond (n * (n - 1)) (poolOf (now (heads .exit)) (now (ends .exit)) (now (links .exit)) (now (dense .exit)) (now (reverse .exit)) (now (free .entry)) r) (poolOf (now (heads .entry)) (now (ends .entry)) (now (links .entry)) (now (dense .entry)) (now (reverse .entry)) (now (free .entry)) c) ⌝ }
 {
     let mut k = c;
     let a = segment_of(x, y, edge);
@@ -72,14 +66,8 @@ pub fn sweep(
             second,
             k,
             heads,
-            min0,
-            max0,
-            next0,
-            prev0,
-            min1,
-            max1,
-            next1,
-            prev1,
+            ends,
+            links,
             dense,
             reverse,
             free,
@@ -99,22 +87,16 @@ pub fn sweeps(
     ring: &[u16],
     c: Counts,
     heads: &mut [u16],
-    min0: &mut [u16],
-    max0: &mut [u16],
-    next0: &mut [u16],
-    prev0: &mut [u16],
-    min1: &mut [u16],
-    max1: &mut [u16],
-    next1: &mut [u16],
-    prev1: &mut [u16],
+    ends: &mut [u64],
+    links: &mut [u64],
     dense: &mut [u16],
     reverse: &mut [u16],
     free: &[u16],
 ) -> Counts
-    requires { ⌜ Lent n (now x) (now y) × IsRing n (now ring) × Board n (points (now x) (now y)) × (inserted .count ≤ 3) × AllProper n (source moves n (now ring) inserted) × ((s : Store) × Holds n (poolOf (now heads) (now min0) (now max0) (now next0) (now prev0) (now min1) (now max1) (now next1) (now prev1) (now dense) (now reverse) (now free) c) s × FitAll n (points (now x) (now y)) (now ring) moves (source moves n (now ring) inserted) s) ⌝ }
-    ensures { λ r. ⌜ ((s : Store) → Holds n (poolOf (now (heads .entry)) (now (min0 .entry)) (now (max0 .entry)) (now (next0 .entry)) (now (prev0 .entry)) (now (min1 .entry)) (now (max1 .entry)) (now (next1 .entry)) (now (prev1 .entry)) (now (dense .entry)) (now (reverse .entry)) (now (free .entry)) c) s → FitAll n (points (now (x .entry)) (now (y .entry))) (now (ring .entry)) moves (source moves n (now (ring .entry)) inserted) s
-        → Holds n (poolOf (now (heads .exit)) (now (min0 .exit)) (now (max0 .exit)) (now (next0 .exit)) (now (prev0 .exit)) (now (min1 .exit)) (now (max1 .exit)) (now (next1 .exit)) (now (prev1 .exit)) (now (dense .exit)) (now (reverse .exit)) (now (free .entry)) r) (sweepsOver (points (now (x .entry)) (now (y .entry))) moves (edges n (now (ring .entry))) (source moves n (now (ring .entry)) inserted) s))
-        × Beyond (n * (n - 1)) (poolOf (now (heads .exit)) (now (min0 .exit)) (now (max0 .exit)) (now (next0 .exit)) (now (prev0 .exit)) (now (min1 .exit)) (now (max1 .exit)) (now (next1 .exit)) (now (prev1 .exit)) (now (dense .exit)) (now (reverse .exit)) (now (free .entry)) r) (poolOf (now (heads .entry)) (now (min0 .entry)) (now (max0 .entry)) (now (next0 .entry)) (now (prev0 .entry)) (now (min1 .entry)) (now (max1 .entry)) (now (next1 .entry)) (now (prev1 .entry)) (now (dense .entry)) (now (reverse .entry)) (now (free .entry)) c) ⌝ }
+    requires { ⌜ Lent n (now x) (now y) × IsRing n (now ring) × Board n (points (now x) (now y)) × (inserted .count ≤ 3) × AllProper n (source moves n (now ring) inserted) × ((s : Store) × Holds n (poolOf (now heads) (now ends) (now links) (now dense) (now reverse) (now free) c) s × FitAll n (points (now x) (now y)) (now ring) moves (source moves n (now ring) inserted) s) ⌝ }
+    ensures { λ r. ⌜ ((s : Store) → Holds n (poolOf (now (heads .entry)) (now (ends .entry)) (now (links .entry)) (now (dense .entry)) (now (reverse .entry)) (now (free .entry)) c) s → FitAll n (points (now (x .entry)) (now (y .entry))) (now (ring .entry)) moves (source moves n (now (ring .entry)) inserted) s
+        → Holds n (poolOf (now (heads .exit)) (now (ends .exit)) (now (links .exit)) (now (dense .exit)) (now (reverse .exit)) (now (free .entry)) r) (sweepsOver (points (now (x .entry)) (now (y .entry))) moves (edges n (now (ring .entry))) (source moves n (now (ring .entry)) inserted) s))
+        × Beyond (n * (n - 1)) (poolOf (now (heads .exit)) (now (ends .exit)) (now (links .exit)) (now (dense .exit)) (now (reverse .exit)) (now (free .entry)) r) (poolOf (now (heads .entry)) (now (ends .entry)) (now (links .entry)) (now (dense .entry)) (now (reverse .entry)) (now (free .entry)) c) ⌝ }
 {
     let m = source_len(moves, n, inserted);
     let mut k = c;
@@ -130,14 +112,8 @@ pub fn sweeps(
             ring,
             k,
             heads,
-            min0,
-            max0,
-            next0,
-            prev0,
-            min1,
-            max1,
-            next1,
-            prev1,
+            ends,
+            links,
             dense,
             reverse,
             free,
@@ -153,22 +129,16 @@ pub fn remove_edges(
     removed: Few,
     c: Counts,
     heads: &mut [u16],
-    min0: &[u16],
-    max0: &[u16],
-    next0: &mut [u16],
-    prev0: &mut [u16],
-    min1: &[u16],
-    max1: &[u16],
-    next1: &mut [u16],
-    prev1: &mut [u16],
+    ends: &[u64],
+    links: &mut [u64],
     dense: &mut [u16],
     reverse: &mut [u16],
     free: &mut [u16],
 ) -> Counts
-    requires { ⌜ (removed .count ≤ 3) × AllProper n (fewOf removed) × ((s : Store) × Holds n (poolOf (now heads) (now min0) (now max0) (now next0) (now prev0) (now min1) (now max1) (now next1) (now prev1) (now dense) (now reverse) (now free) c) s) ⌝ }
-    ensures { λ r. ⌜ ((s : Store) → Holds n (poolOf (now (heads .entry)) (now (min0 .entry)) (now (max0 .entry)) (now (next0 .entry)) (now (prev0 .entry)) (now (min1 .entry)) (now (max1 .entry)) (now (next1 .entry)) (now (prev1 .entry)) (now (dense .entry)) (now (reverse .entry)) (now (free .entry)) c) s
-        → Holds n (poolOf (now (heads .exit)) (now (min0 .entry)) (now (max0 .entry)) (now (next0 .exit)) (now (prev0 .exit)) (now (min1 .entry)) (now (max1 .entry)) (now (next1 .exit)) (now (prev1 .exit)) (now (dense .exit)) (now (reverse .exit)) (now (free .exit)) r) (removes (fewOf removed) s))
-        × Beyond (n * (n - 1)) (poolOf (now (heads .exit)) (now (min0 .entry)) (now (max0 .entry)) (now (next0 .exit)) (now (prev0 .exit)) (now (min1 .entry)) (now (max1 .entry)) (now (next1 .exit)) (now (prev1 .exit)) (now (dense .exit)) (now (reverse .exit)) (now (free .exit)) r) (poolOf (now (heads .entry)) (now (min0 .entry)) (now (max0 .entry)) (now (next0 .entry)) (now (prev0 .entry)) (now (min1 .entry)) (now (max1 .entry)) (now (next1 .entry)) (now (prev1 .entry)) (now (dense .entry)) (now (reverse .entry)) (now (free .entry)) c) ⌝ }
+    requires { ⌜ (removed .count ≤ 3) × AllProper n (fewOf removed) × ((s : Store) × Holds n (poolOf (now heads) (now ends) (now links) (now dense) (now reverse) (now free) c) s) ⌝ }
+    ensures { λ r. ⌜ ((s : Store) → Holds n (poolOf (now (heads .entry)) (now (ends .entry)) (now (links .entry)) (now (dense .entry)) (now (reverse .entry)) (now (free .entry)) c) s
+        → Holds n (poolOf (now (heads .exit)) (now (ends .entry)) (now (links .exit)) (now (dense .exit)) (now (reverse .exit)) (now (free .exit)) r) (removes (fewOf removed) s))
+        × Beyond (n * (n - 1)) (poolOf (now (heads .exit)) (now (ends .entry)) (now (links .exit)) (now (dense .exit)) (now (reverse .exit)) (now (free .exit)) r) (poolOf (now (heads .entry)) (now (ends .entry)) (now (links .entry)) (now (dense .entry)) (now (reverse .entry)) (now (free .entry)) c) ⌝ }
 {
     let m = removed.count as usize;
     let mut k = c;
@@ -180,14 +150,8 @@ pub fn remove_edges(
             edge,
             k,
             heads,
-            min0,
-            max0,
-            next0,
-            prev0,
-            min1,
-            max1,
-            next1,
-            prev1,
+            ends,
+            links,
             dense,
             reverse,
             free,

@@ -53,14 +53,8 @@ fn deliver(n: usize, x: &[i32], y: &[i32], picks: &[u32], out: &mut [u8]) -> usi
     let mut ring = [0u16; 48];
     let mut index = [0u16; 48];
     let mut heads = [0u16; 2256];
-    let mut min0 = [0u16; 2256];
-    let mut max0 = [0u16; 2256];
-    let mut next0 = [0u16; 2256];
-    let mut prev0 = [0u16; 2256];
-    let mut min1 = [0u16; 2256];
-    let mut max1 = [0u16; 2256];
-    let mut next1 = [0u16; 2256];
-    let mut prev1 = [0u16; 2256];
+    let mut ends = [0u64; 2256];
+    let mut links = [0u64; 2256];
     let mut dense = [0u16; 2256];
     let mut reverse = [0u16; 2256];
     let mut free = [0u16; 2256];
@@ -72,14 +66,8 @@ fn deliver(n: usize, x: &[i32], y: &[i32], picks: &[u32], out: &mut [u8]) -> usi
         &mut ring,
         &mut index,
         &mut heads,
-        &mut min0,
-        &mut max0,
-        &mut next0,
-        &mut prev0,
-        &mut min1,
-        &mut max1,
-        &mut next1,
-        &mut prev1,
+        &mut ends,
+        &mut links,
         &mut dense,
         &mut reverse,
         &mut free,

@@ -35,34 +35,21 @@ pub fn too_short(
     ring: usize,
     index: usize,
     heads: usize,
-    min0: usize,
-    max0: usize,
-    next0: usize,
-    prev0: usize,
-    min1: usize,
-    max1: usize,
-    next1: usize,
-    prev1: usize,
+    ends: usize,
+    links: usize,
     dense: usize,
     reverse: usize,
     free: usize,
 ) -> bool
-    ensures { λ r. ⌜ (n ≤ 256 → r ≡ short n (x ∷ y ∷ ring ∷ index ∷ []) (heads ∷ min0 ∷ max0 ∷ next0 ∷ prev0 ∷ min1 ∷ max1 ∷ next1 ∷ prev1 ∷ dense ∷ reverse ∷ free ∷ [])) ⌝ }
+    ensures { λ r. ⌜ (n ≤ 256 → r ≡ short n (x ∷ y ∷ ring ∷ index ∷ []) (heads ∷ ends ∷ links ∷ dense ∷ reverse ∷ free ∷ [])) ⌝ }
 {
     if 256 < n {
         return true;
     }
     let size = record_size(n);
-    let edges = (min0 < size)
-        | ((max0 < size)
-            | ((next0 < size)
-                | ((prev0 < size)
-                    | ((min1 < size)
-                        | ((max1 < size)
-                            | ((next1 < size)
-                                | ((prev1 < size)
-                                    | ((dense < size) | ((reverse < size) | (free < size))))))))));
-    ((x < n) | ((y < n) | ((ring < n) | (index < n)))) | ((heads < size) | edges)
+    let records = (ends < size)
+        | ((links < size) | ((dense < size) | ((reverse < size) | (free < size))));
+    ((x < n) | ((y < n) | ((ring < n) | (index < n)))) | ((heads < size) | records)
 }
 
 // Checks 1, 2 and 3.

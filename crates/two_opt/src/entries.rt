@@ -54,22 +54,16 @@ fn from_order(
     ring: &mut [u16],
     index: &mut [u16],
     heads: &mut [u16],
-    min0: &mut [u16],
-    max0: &mut [u16],
-    next0: &mut [u16],
-    prev0: &mut [u16],
-    min1: &mut [u16],
-    max1: &mut [u16],
-    next1: &mut [u16],
-    prev1: &mut [u16],
+    ends: &mut [u64],
+    links: &mut [u64],
     dense: &mut [u16],
     reverse: &mut [u16],
     free: &mut [u16],
 ) -> Resolved
-    requires { ⌜ Lent n (now x) (now y) × (refusal n (points (now x) (now y)) false (upFrom 0 n) ≡ 0) × (length (now ring) ≡ n) × (length (now index) ≡ n) × ((c : Counts) → Sized n (poolOf (now heads) (now min0) (now max0) (now next0) (now prev0) (now min1) (now max1) (now next1) (now prev1) (now dense) (now reverse) (now free) c)) ⌝ }
+    requires { ⌜ Lent n (now x) (now y) × (refusal n (points (now x) (now y)) false (upFrom 0 n) ≡ 0) × (length (now ring) ≡ n) × (length (now index) ≡ n) × ((c : Counts) → Sized n (poolOf (now heads) (now ends) (now links) (now dense) (now reverse) (now free) c)) ⌝ }
     ensures { λ k. ⌜ Counted n (points (now (x .entry)) (now (y .entry))) (upFrom 0 n) (now (picks .entry)) (k .moves) (k .cross) (k .left)
-        × ((c : Counts) → Ended n (points (now (x .entry)) (now (y .entry))) (upFrom 0 n) (now (picks .entry)) (now (ring .exit)) (now (index .exit)) (poolOf (now (heads .exit)) (now (min0 .exit)) (now (max0 .exit)) (now (next0 .exit)) (now (prev0 .exit)) (now (min1 .exit)) (now (max1 .exit)) (now (next1 .exit)) (now (prev1 .exit)) (now (dense .exit)) (now (reverse .exit)) (now (free .exit)) c))
-        × ((c : Counts) → Beyond (n * (n - 1)) (poolOf (now (heads .exit)) (now (min0 .exit)) (now (max0 .exit)) (now (next0 .exit)) (now (prev0 .exit)) (now (min1 .exit)) (now (max1 .exit)) (now (next1 .exit)) (now (prev1 .exit)) (now (dense .exit)) (now (reverse .exit)) (now (free .exit)) c) (poolOf (now (heads .entry)) (now (min0 .entry)) (now (max0 .entry)) (now (next0 .entry)) (now (prev0 .entry)) (now (min1 .entry)) (now (max1 .entry)) (now (next1 .entry)) (now (prev1 .entry)) (now (dense .entry)) (now (reverse .entry)) (now (free .entry)) c)) ⌝ }
+        × ((c : Counts) → Ended n (points (now (x .entry)) (now (y .entry))) (upFrom 0 n) (now (picks .entry)) (now (ring .exit)) (now (index .exit)) (poolOf (now (heads .exit)) (now (ends .exit)) (now (links .exit)) (now (dense .exit)) (now (reverse .exit)) (now (free .exit)) c))
+        × ((c : Counts) → Beyond (n * (n - 1)) (poolOf (now (heads .exit)) (now (ends .exit)) (now (links .exit)) (now (dense .exit)) (now (reverse .exit)) (now (free .exit)) c) (poolOf (now (heads .entry)) (now (ends .entry)) (now (links .entry)) (now (dense .entry)) (now (reverse .entry)) (now (free .entry)) c)) ⌝ }
 {
     identity(ring, index);
     resolve(
@@ -80,14 +74,8 @@ fn from_order(
         ring,
         index,
         heads,
-        min0,
-        max0,
-        next0,
-        prev0,
-        min1,
-        max1,
-        next1,
-        prev1,
+        ends,
+        links,
         dense,
         reverse,
         free,
@@ -103,22 +91,16 @@ fn from_ring(
     ring: &mut [u16],
     index: &mut [u16],
     heads: &mut [u16],
-    min0: &mut [u16],
-    max0: &mut [u16],
-    next0: &mut [u16],
-    prev0: &mut [u16],
-    min1: &mut [u16],
-    max1: &mut [u16],
-    next1: &mut [u16],
-    prev1: &mut [u16],
+    ends: &mut [u64],
+    links: &mut [u64],
     dense: &mut [u16],
     reverse: &mut [u16],
     free: &mut [u16],
 ) -> Resolved
-    requires { ⌜ Lent n (now x) (now y) × (refusal n (points (now x) (now y)) false (now ring) ≡ 0) × (length (now index) ≡ n) × ((c : Counts) → Sized n (poolOf (now heads) (now min0) (now max0) (now next0) (now prev0) (now min1) (now max1) (now next1) (now prev1) (now dense) (now reverse) (now free) c)) ⌝ }
+    requires { ⌜ Lent n (now x) (now y) × (refusal n (points (now x) (now y)) false (now ring) ≡ 0) × (length (now index) ≡ n) × ((c : Counts) → Sized n (poolOf (now heads) (now ends) (now links) (now dense) (now reverse) (now free) c)) ⌝ }
     ensures { λ k. ⌜ Counted n (points (now (x .entry)) (now (y .entry))) (now (ring .entry)) (now (picks .entry)) (k .moves) (k .cross) (k .left)
-        × ((c : Counts) → Ended n (points (now (x .entry)) (now (y .entry))) (now (ring .entry)) (now (picks .entry)) (now (ring .exit)) (now (index .exit)) (poolOf (now (heads .exit)) (now (min0 .exit)) (now (max0 .exit)) (now (next0 .exit)) (now (prev0 .exit)) (now (min1 .exit)) (now (max1 .exit)) (now (next1 .exit)) (now (prev1 .exit)) (now (dense .exit)) (now (reverse .exit)) (now (free .exit)) c))
-        × ((c : Counts) → Beyond (n * (n - 1)) (poolOf (now (heads .exit)) (now (min0 .exit)) (now (max0 .exit)) (now (next0 .exit)) (now (prev0 .exit)) (now (min1 .exit)) (now (max1 .exit)) (now (next1 .exit)) (now (prev1 .exit)) (now (dense .exit)) (now (reverse .exit)) (now (free .exit)) c) (poolOf (now (heads .entry)) (now (min0 .entry)) (now (max0 .entry)) (now (next0 .entry)) (now (prev0 .entry)) (now (min1 .entry)) (now (max1 .entry)) (now (next1 .entry)) (now (prev1 .entry)) (now (dense .entry)) (now (reverse .entry)) (now (free .entry)) c)) ⌝ }
+        × ((c : Counts) → Ended n (points (now (x .entry)) (now (y .entry))) (now (ring .entry)) (now (picks .entry)) (now (ring .exit)) (now (index .exit)) (poolOf (now (heads .exit)) (now (ends .exit)) (now (links .exit)) (now (dense .exit)) (now (reverse .exit)) (now (free .exit)) c))
+        × ((c : Counts) → Beyond (n * (n - 1)) (poolOf (now (heads .exit)) (now (ends .exit)) (now (links .exit)) (now (dense .exit)) (now (reverse .exit)) (now (free .exit)) c) (poolOf (now (heads .entry)) (now (ends .entry)) (now (links .entry)) (now (dense .entry)) (now (reverse .entry)) (now (free .entry)) c)) ⌝ }
 {
     rebuild_index(ring, index);
     resolve(
@@ -129,14 +111,8 @@ fn from_ring(
         ring,
         index,
         heads,
-        min0,
-        max0,
-        next0,
-        prev0,
-        min1,
-        max1,
-        next1,
-        prev1,
+        ends,
+        links,
         dense,
         reverse,
         free,
@@ -152,20 +128,14 @@ pub fn two_opt_moves(
     ring: &mut [u16],
     index: &mut [u16],
     heads: &mut [u16],
-    min0: &mut [u16],
-    max0: &mut [u16],
-    next0: &mut [u16],
-    prev0: &mut [u16],
-    min1: &mut [u16],
-    max1: &mut [u16],
-    next1: &mut [u16],
-    prev1: &mut [u16],
+    ends: &mut [u64],
+    links: &mut [u64],
     dense: &mut [u16],
     reverse: &mut [u16],
     free: &mut [u16],
 ) -> Answer
-    ensures { λ a. ⌜ (answerOf a (take n (now (ring .exit))) ≡ call n (points (now (x .entry)) (now (y .entry))) (shortOf n (now (x .entry)) (now (y .entry)) (now (ring .entry)) (now (index .entry)) (lent (now (heads .entry)) (now (min0 .entry)) (now (max0 .entry)) (now (next0 .entry)) (now (prev0 .entry)) (now (min1 .entry)) (now (max1 .entry)) (now (next1 .entry)) (now (prev1 .entry)) (now (dense .entry)) (now (reverse .entry)) (now (free .entry)))) (upFrom 0 n) (now (picks .entry)))
-        × Leaves n (points (now (x .entry)) (now (y .entry))) (shortOf n (now (x .entry)) (now (y .entry)) (now (ring .entry)) (now (index .entry)) (lent (now (heads .entry)) (now (min0 .entry)) (now (max0 .entry)) (now (next0 .entry)) (now (prev0 .entry)) (now (min1 .entry)) (now (max1 .entry)) (now (next1 .entry)) (now (prev1 .entry)) (now (dense .entry)) (now (reverse .entry)) (now (free .entry)))) (upFrom 0 n) (now (picks .entry)) (now (ring .entry)) (now (index .entry)) (lent (now (heads .entry)) (now (min0 .entry)) (now (max0 .entry)) (now (next0 .entry)) (now (prev0 .entry)) (now (min1 .entry)) (now (max1 .entry)) (now (next1 .entry)) (now (prev1 .entry)) (now (dense .entry)) (now (reverse .entry)) (now (free .entry))) (now (ring .exit)) (now (index .exit)) (lent (now (heads .exit)) (now (min0 .exit)) (now (max0 .exit)) (now (next0 .exit)) (now (prev0 .exit)) (now (min1 .exit)) (now (max1 .exit)) (now (next1 .exit)) (now (prev1 .exit)) (now (dense .exit)) (now (reverse .exit)) (now (free .exit))) ⌝ }
+    ensures { λ a. ⌜ (answerOf a (take n (now (ring .exit))) ≡ call n (points (now (x .entry)) (now (y .entry))) (shortOf n (now (x .entry)) (now (y .entry)) (now (ring .entry)) (now (index .entry)) (lent (now (heads .entry)) (now (ends .entry)) (now (links .entry)) (now (dense .entry)) (now (reverse .entry)) (now (free .entry)))) (upFrom 0 n) (now (picks .entry)))
+        × Leaves n (points (now (x .entry)) (now (y .entry))) (shortOf n (now (x .entry)) (now (y .entry)) (now (ring .entry)) (now (index .entry)) (lent (now (heads .entry)) (now (ends .entry)) (now (links .entry)) (now (dense .entry)) (now (reverse .entry)) (now (free .entry)))) (upFrom 0 n) (now (picks .entry)) (now (ring .entry)) (now (index .entry)) (lent (now (heads .entry)) (now (ends .entry)) (now (links .entry)) (now (dense .entry)) (now (reverse .entry)) (now (free .entry))) (now (ring .exit)) (now (index .exit)) (lent (now (heads .exit)) (now (ends .exit)) (now (links .exit)) (now (dense .exit)) (now (reverse .exit)) (now (free .exit))) ⌝ }
 {
     let short = too_short(
         n,
@@ -174,14 +144,8 @@ pub fn two_opt_moves(
         ring.len(),
         index.len(),
         heads.len(),
-        min0.len(),
-        max0.len(),
-        next0.len(),
-        prev0.len(),
-        min1.len(),
-        max1.len(),
-        next1.len(),
-        prev1.len(),
+        ends.len(),
+        links.len(),
         dense.len(),
         reverse.len(),
         free.len(),
@@ -198,14 +162,8 @@ pub fn two_opt_moves(
         &mut ring[0..n],
         &mut index[0..n],
         heads,
-        min0,
-        max0,
-        next0,
-        prev0,
-        min1,
-        max1,
-        next1,
-        prev1,
+        ends,
+        links,
         dense,
         reverse,
         free,
@@ -222,20 +180,14 @@ pub fn resolve_self_intersections(
     ring: &mut [u16],
     index: &mut [u16],
     heads: &mut [u16],
-    min0: &mut [u16],
-    max0: &mut [u16],
-    next0: &mut [u16],
-    prev0: &mut [u16],
-    min1: &mut [u16],
-    max1: &mut [u16],
-    next1: &mut [u16],
-    prev1: &mut [u16],
+    ends: &mut [u64],
+    links: &mut [u64],
     dense: &mut [u16],
     reverse: &mut [u16],
     free: &mut [u16],
 ) -> Answer
-    ensures { λ a. ⌜ (answerOf a (take n (now (ring .exit))) ≡ call n (points (now (x .entry)) (now (y .entry))) (shortOf n (now (x .entry)) (now (y .entry)) (now (ring .entry)) (now (index .entry)) (lent (now (heads .entry)) (now (min0 .entry)) (now (max0 .entry)) (now (next0 .entry)) (now (prev0 .entry)) (now (min1 .entry)) (now (max1 .entry)) (now (next1 .entry)) (now (prev1 .entry)) (now (dense .entry)) (now (reverse .entry)) (now (free .entry)))) (take n (now (ring .entry))) (now (picks .entry)))
-        × Leaves n (points (now (x .entry)) (now (y .entry))) (shortOf n (now (x .entry)) (now (y .entry)) (now (ring .entry)) (now (index .entry)) (lent (now (heads .entry)) (now (min0 .entry)) (now (max0 .entry)) (now (next0 .entry)) (now (prev0 .entry)) (now (min1 .entry)) (now (max1 .entry)) (now (next1 .entry)) (now (prev1 .entry)) (now (dense .entry)) (now (reverse .entry)) (now (free .entry)))) (take n (now (ring .entry))) (now (picks .entry)) (now (ring .entry)) (now (index .entry)) (lent (now (heads .entry)) (now (min0 .entry)) (now (max0 .entry)) (now (next0 .entry)) (now (prev0 .entry)) (now (min1 .entry)) (now (max1 .entry)) (now (next1 .entry)) (now (prev1 .entry)) (now (dense .entry)) (now (reverse .entry)) (now (free .entry))) (now (ring .exit)) (now (index .exit)) (lent (now (heads .exit)) (now (min0 .exit)) (now (max0 .exit)) (now (next0 .exit)) (now (prev0 .exit)) (now (min1 .exit)) (now (max1 .exit)) (now (next1 .exit)) (now (prev1 .exit)) (now (dense .exit)) (now (reverse .exit)) (now (free .exit))) ⌝ }
+    ensures { λ a. ⌜ (answerOf a (take n (now (ring .exit))) ≡ call n (points (now (x .entry)) (now (y .entry))) (shortOf n (now (x .entry)) (now (y .entry)) (now (ring .entry)) (now (index .entry)) (lent (now (heads .entry)) (now (ends .entry)) (now (links .entry)) (now (dense .entry)) (now (reverse .entry)) (now (free .entry)))) (take n (now (ring .entry))) (now (picks .entry)))
+        × Leaves n (points (now (x .entry)) (now (y .entry))) (shortOf n (now (x .entry)) (now (y .entry)) (now (ring .entry)) (now (index .entry)) (lent (now (heads .entry)) (now (ends .entry)) (now (links .entry)) (now (dense .entry)) (now (reverse .entry)) (now (free .entry)))) (take n (now (ring .entry))) (now (picks .entry)) (now (ring .entry)) (now (index .entry)) (lent (now (heads .entry)) (now (ends .entry)) (now (links .entry)) (now (dense .entry)) (now (reverse .entry)) (now (free .entry))) (now (ring .exit)) (now (index .exit)) (lent (now (heads .exit)) (now (ends .exit)) (now (links .exit)) (now (dense .exit)) (now (reverse .exit)) (now (free .exit))) ⌝ }
 {
     let short = too_short(
         n,
@@ -244,14 +196,8 @@ pub fn resolve_self_intersections(
         ring.len(),
         index.len(),
         heads.len(),
-        min0.len(),
-        max0.len(),
-        next0.len(),
-        prev0.len(),
-        min1.len(),
-        max1.len(),
-        next1.len(),
-        prev1.len(),
+        ends.len(),
+        links.len(),
         dense.len(),
         reverse.len(),
         free.len(),
@@ -268,14 +214,8 @@ pub fn resolve_self_intersections(
         &mut ring[0..n],
         &mut index[0..n],
         heads,
-        min0,
-        max0,
-        next0,
-        prev0,
-        min1,
-        max1,
-        next1,
-        prev1,
+        ends,
+        links,
         dense,
         reverse,
         free,

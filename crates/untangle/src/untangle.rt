@@ -27,22 +27,16 @@ pub fn untangle(
     index: &mut [u16],
     c: Counts,
     heads: &mut [u16],
-    min0: &mut [u16],
-    max0: &mut [u16],
-    next0: &mut [u16],
-    prev0: &mut [u16],
-    min1: &mut [u16],
-    max1: &mut [u16],
-    next1: &mut [u16],
-    prev1: &mut [u16],
+    ends: &mut [u64],
+    links: &mut [u64],
     dense: &mut [u16],
     reverse: &mut [u16],
     free: &mut [u16],
 ) -> Counts
-    requires { ⌜ Lent n (now x) (now y) × ((r cs : List ℕ) × (pick : ℕ) × Running n (points (now x) (now y)) r cs (now ring) (now index) (poolOf (now heads) (now min0) (now max0) (now next0) (now prev0) (now min1) (now max1) (now next1) (now prev1) (now dense) (now reverse) (now free) c) × Picked n (points (now x) (now y)) r cs pick (edgeOf (isect .min)) (edgeOf (isect .max))) ⌝ }
-    ensures { λ k. ⌜ ((r cs : List ℕ) (pick : ℕ) → Running n (points (now (x .entry)) (now (y .entry))) r cs (now (ring .entry)) (now (index .entry)) (poolOf (now (heads .entry)) (now (min0 .entry)) (now (max0 .entry)) (now (next0 .entry)) (now (prev0 .entry)) (now (min1 .entry)) (now (max1 .entry)) (now (next1 .entry)) (now (prev1 .entry)) (now (dense .entry)) (now (reverse .entry)) (now (free .entry)) c) → Picked n (points (now (x .entry)) (now (y .entry))) r cs pick (edgeOf (isect .min)) (edgeOf (isect .max))
-        → Running n (points (now (x .entry)) (now (y .entry))) r (cs ++ pick ∷ []) (now (ring .exit)) (now (index .exit)) (poolOf (now (heads .exit)) (now (min0 .exit)) (now (max0 .exit)) (now (next0 .exit)) (now (prev0 .exit)) (now (min1 .exit)) (now (max1 .exit)) (now (next1 .exit)) (now (prev1 .exit)) (now (dense .exit)) (now (reverse .exit)) (now (free .exit)) k))
-        × Beyond (n * (n - 1)) (poolOf (now (heads .exit)) (now (min0 .exit)) (now (max0 .exit)) (now (next0 .exit)) (now (prev0 .exit)) (now (min1 .exit)) (now (max1 .exit)) (now (next1 .exit)) (now (prev1 .exit)) (now (dense .exit)) (now (reverse .exit)) (now (free .exit)) k) (poolOf (now (heads .entry)) (now (min0 .entry)) (now (max0 .entry)) (now (next0 .entry)) (now (prev0 .entry)) (now (min1 .entry)) (now (max1 .entry)) (now (next1 .entry)) (now (prev1 .entry)) (now (dense .entry)) (now (reverse .entry)) (now (free .entry)) c) ⌝ }
+    requires { ⌜ Lent n (now x) (now y) × ((r cs : List ℕ) × (pick : ℕ) × Running n (points (now x) (now y)) r cs (now ring) (now index) (poolOf (now heads) (now ends) (now links) (now dense) (now reverse) (now free) c) × Picked n (points (now x) (now y)) r cs pick (edgeOf (isect .min)) (edgeOf (isect .max))) ⌝ }
+    ensures { λ k. ⌜ ((r cs : List ℕ) (pick : ℕ) → Running n (points (now (x .entry)) (now (y .entry))) r cs (now (ring .entry)) (now (index .entry)) (poolOf (now (heads .entry)) (now (ends .entry)) (now (links .entry)) (now (dense .entry)) (now (reverse .entry)) (now (free .entry)) c) → Picked n (points (now (x .entry)) (now (y .entry))) r cs pick (edgeOf (isect .min)) (edgeOf (isect .max))
+        → Running n (points (now (x .entry)) (now (y .entry))) r (cs ++ pick ∷ []) (now (ring .exit)) (now (index .exit)) (poolOf (now (heads .exit)) (now (ends .exit)) (now (links .exit)) (now (dense .exit)) (now (reverse .exit)) (now (free .exit)) k))
+        × Beyond (n * (n - 1)) (poolOf (now (heads .exit)) (now (ends .exit)) (now (links .exit)) (now (dense .exit)) (now (reverse .exit)) (now (free .exit)) k) (poolOf (now (heads .entry)) (now (ends .entry)) (now (links .entry)) (now (dense .entry)) (now (reverse .entry)) (now (free .entry)) c) ⌝ }
 {
     let min = isect.min;
     let max = isect.max;
@@ -54,14 +48,8 @@ pub fn untangle(
         removed,
         c,
         heads,
-        min0,
-        max0,
-        next0,
-        prev0,
-        min1,
-        max1,
-        next1,
-        prev1,
+        ends,
+        links,
         dense,
         reverse,
         free,
@@ -76,14 +64,8 @@ pub fn untangle(
         ring,
         left,
         heads,
-        min0,
-        max0,
-        next0,
-        prev0,
-        min1,
-        max1,
-        next1,
-        prev1,
+        ends,
+        links,
         dense,
         reverse,
         free,

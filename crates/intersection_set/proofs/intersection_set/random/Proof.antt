@@ -1,58 +1,47 @@
--- `random` meets its contract: the dense entry that the pick takes is the slot of a live record, which holds its edges.
-use Prim.Native.Nat.{ℕ, _%_, _<_}
-use native.Mathlib.Omega.{arith}
-use lib.ListN.{length, getD}
-use denote.Ref.{now}
-use Rattle.intersection_set.specs.Pool.{edges}
-use Rattle.intersection_set.specs.Within.{InEdges}
-use mathlib.Core.Path.{_∙_}
-use Rattle.intersection_set.proofs.Picking.{pick-in-dense, pick-in-edges, picked-first, picked-second}
 use borrow.Author.Needs.{needs}
 use Rattle.intersection_set.proofs.intersection_set.random.Statement.{statement}
 use Rattle.intersection_set.proofs.intersection_set.random.Tie as tie
+use Rattle.intersection_set.proofs.intersection_set.random.Reads as reads
+use Rattle.intersection_set.proofs.intersection_set.random.Lts as lts
+use Rattle.intersection_set.proofs.intersection_set.edge0_at.Reads as edge0-at-reads
+use Rattle.intersection_set.proofs.intersection_set.edge1_at.Reads as edge1-at-reads
 
--- the store that the caller knows of
-inside : (c : tie.Start) → c .args .pick % c .args .c .live < length (c .args .dense .now)
-inside c = let q = c .pre .1 in pick-in-dense (q .0) (q .1) (q .2) (q .3) (q .4) (q .5) (q .6) (c .args .pick) (c .pre .0)
-
-abbrev slot : tie.Start → ℕ
-slot c = getD (c .args .dense .now) (c .args .pick % c .args .c .live) 0
-
-within : (c : tie.Start) → InEdges (slot c) (edges (now (c .args .min0)) (now (c .args .max0)) (now (c .args .min1)) (now (c .args .max1)))
-within c = let q = c .pre .1 in pick-in-edges (q .0) (q .1) (q .2) (q .3) (q .4) (q .5) (q .6) (c .args .pick) (c .pre .0)
-
+-- src/intersection_set.rt:404:14
 rem-at : tie.Need-rem-at
 rem-at c = search needs
 
-mul-t12 : tie.Need-mul-t12
-mul-t12 c = omega (arith, inside (c .before .before .before .before .before), c .before .before .before .before .before .good)
+-- src/intersection_set.rt:405:25
+mul-t9 : tie.Need-mul-t9
+mul-t9 c = ?
 
-shared-slice-read-t14 : tie.Need-shared-slice-read-t14
-shared-slice-read-t14 c = inside (c .before .before .before .before .before .before)
+-- src/intersection_set.rt:405:25
+shared-slice-read-t11 : tie.Need-shared-slice-read-t11
+shared-slice-read-t11 c = ?
 
+-- src/intersection_set.rt:406:13
 cast-i : tie.Need-cast-i
 cast-i c = search needs
 
-edge-at-requires : tie.Need-edge-at-requires
-edge-at-requires c κs = (within (c .before .before .before .before .before .before .before) .in-min0, within (c .before .before .before .before .before .before .before) .in-max0)
+-- src/intersection_set.rt:408:14
+edge0-at-requires : tie.Need-edge0-at-requires
+edge0-at-requires c κs = ?
 
-edge-at-requires-2 : tie.Need-edge-at-requires-2
-edge-at-requires-2 c κs = (within (c .before .before .before .before .before .before .before .before) .in-min1, within (c .before .before .before .before .before .before .before .before) .in-max1)
+-- src/intersection_set.rt:409:14
+edge1-at-requires : tie.Need-edge1-at-requires
+edge1-at-requires c κs = ?
 
+-- src/intersection_set.rt:393:1
 returns : tie.Need-returns
-returns c = λ n p s h ev ed ec. (
-  c .before .edge-at .ensures ∙ picked-first n p s h ev ed ec (c .before .before .before .before .before .before .before .before .before .args .pick) (c .before .before .before .before .before .before .before .before .before .pre .0),
-  c .edge-at2 .ensures ∙ picked-second n p s h ev ed ec (c .before .before .before .before .before .before .before .before .before .args .pick) (c .before .before .before .before .before .before .before .before .before .pre .0),
-)
+returns c = ?
 
 pub random-spec : {M : Type 1} → statement M
 random-spec =
     tie.close
     (tie.spec
     rem-at
-    mul-t12
-    shared-slice-read-t14
+    mul-t9
+    shared-slice-read-t11
     cast-i
-    edge-at-requires
-    edge-at-requires-2
+    edge0-at-requires
+    edge1-at-requires
     returns)

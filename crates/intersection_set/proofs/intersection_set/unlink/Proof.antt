@@ -1,5 +1,8 @@
--- `unlink` meets its contract: each call is one field of `unlinkFrom`.
-use Rattle.intersection_set.specs.Pool.{unlinkFrom}
+use mathlib.Core.Path.{_≡_, ap, _∙_, subst⁻¹}
+use denote.Ref.{now}
+use Rattle.index_edge.specs.Number.{edgeOf}
+use Rattle.intersection_set.specs.Pool.{Ends, edgesOf, prevsOf, setEnd, unlinkFrom}
+use Rattle.intersection_set.specs.Within.{EndOk}
 use borrow.Author.Needs.{needs}
 use Rattle.intersection_set.proofs.intersection_set.unlink.Statement.{statement}
 use Rattle.intersection_set.proofs.intersection_set.unlink.Tie as tie
@@ -7,11 +10,11 @@ use Rattle.intersection_set.proofs.intersection_set.unlink.Tie as tie
 set-head-requires : tie.Need-set-head-requires
 set-head-requires c κs = search needs
 
-set-end-requires : tie.Need-set-end-requires
-set-end-requires c κs = search needs
+set-next-requires : tie.Need-set-next-requires
+set-next-requires c κs = search needs
 
-set-end-requires-2 : tie.Need-set-end-requires-2
-set-end-requires-2 c κs = search needs
+set-prev-requires : tie.Need-set-prev-requires
+set-prev-requires c κs = let b = c .before .before .before .before .before .before .before .before .before .before .before .before in subst⁻¹ (λ (x : Ends). EndOk (b .args .next .0) (edgesOf (now (b .args .ends)) .min0) (edgesOf (now (b .args .ends)) .max0) x) (c .before .before .before .set-next .ensures .1) (b .pre .second)
 
 same-length : tie.Need-same-length
 same-length c = search needs
@@ -19,29 +22,23 @@ same-length c = search needs
 same-length-2 : tie.Need-same-length-2
 same-length-2 c = search needs
 
-same-length-3 : tie.Need-same-length-3
-same-length-3 c = search needs
-
-same-length-4 : tie.Need-same-length-4
-same-length-4 c = search needs
-
-same-length-5 : tie.Need-same-length-5
-same-length-5 c = search needs
-
 returns : tie.Need-returns
 unfolding unlinkFrom
-returns c = λ i. record { heads = c .before .before .before .before .before .before .before .before .before .before .before .before .before .before .before .before .set-head .ensures i; next = c .before .before .before .before .before .before .before .before .before .before .before .set-end .ensures i; prev = c .before .before .before .before .set-end2 .ensures i }
+returns c = let a = c .before .before .before .before .before .before .before .before .before .before .before .before .before .before .before .args in
+    λ i.
+        record {
+          heads = c .before .before .before .before .before .before .before .before .before .before .set-head .ensures i;
+          next = (c .before .before .set-prev .ensures .1 ∙ c .before .before .before .before .before .before .set-next .ensures .0) i;
+          prev = (c .before .before .set-prev .ensures .0 ∙ ap (λ (x : Ends). setEnd (a .next .0) (edgeOf (a .e)) (a .prev .0) (edgesOf (now (a .ends)) .min0) (edgesOf (now (a .ends)) .max0) x) (c .before .before .before .before .before .before .set-next .ensures .1)) i;
+        }
 
 pub unlink-spec : {M : Type 1} → statement M
 unlink-spec =
     tie.close
     (tie.spec
     set-head-requires
-    set-end-requires
-    set-end-requires-2
+    set-next-requires
+    set-prev-requires
     same-length
     same-length-2
-    same-length-3
-    same-length-4
-    same-length-5
     returns)

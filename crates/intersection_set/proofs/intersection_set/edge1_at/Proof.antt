@@ -1,0 +1,24 @@
+use mathlib.Core.Path.{sym, _∙_}
+use denote.Ref.{now}
+use Rattle.intersection_set.proofs.Words.{end1-reads}
+use borrow.Author.Needs.{needs}
+use Rattle.intersection_set.proofs.intersection_set.edge1_at.Statement.{statement}
+use Rattle.intersection_set.proofs.intersection_set.edge1_at.Tie as tie
+
+mul-w : tie.Need-mul-w
+mul-w c = search needs
+
+shared-slice-read-w : tie.Need-shared-slice-read-w
+shared-slice-read-w c = search needs
+
+low2-requires : tie.Need-low2-requires
+low2-requires c κs = search needs
+
+low3-requires : tie.Need-low3-requires
+low3-requires c κs = search needs
+
+returns : tie.Need-returns
+returns c = (λ j. record { lo = c .before .low2 .ensures j; hi = c .low3 .ensures j }) ∙ sym (end1-reads (now (c .before .before .before .before .args .ends)) (c .before .before .before .before .args .i))
+
+pub edge1-at-spec : {M : Type 1} → statement M
+edge1-at-spec = tie.close (tie.spec mul-w shared-slice-read-w low2-requires low3-requires returns)
