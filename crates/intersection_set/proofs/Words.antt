@@ -133,6 +133,12 @@ module _ (w : List ℕ) where
     unfolding prevsOf part3
     prev1-reads = List·getD-map part3 w i 0
 
+pub same-ends : (w w′ : List ℕ) → length (edgesOf w .min0) ≡ length (edgesOf w′ .min0) → length w ≡ length w′
+same-ends w w′ q = sym (len-min0 w) ∙ q ∙ len-min0 w′
+
+pub same-links : (w w′ : List ℕ) → length (nextsOf w .x0) ≡ length (nextsOf w′ .x0) → length w ≡ length w′
+same-links w w′ q = sym (len-nexts w .0) ∙ q ∙ len-nexts w′ .0
+
 -- ---- a word stored
 stored : (f : ℕ → ℕ) (l : List ℕ) (i y v : ℕ) → f y ≡ v → map f (set l i y) ≡ set (map f l) i v
 stored f [] i y v e = refl

@@ -1,60 +1,74 @@
+-- `push` meets its contract: the calls' contracts come to the steps of `poolPush`.
+use Prim.Native.Nat.{_-_, _*_, _<_}
+use mathlib.Core.Path.{_∙_, subst⁻¹}
+use denote.Ref.{now}
+use Rattle.index_edge.specs.Edge.{Edge}
+use Rattle.index_edge.specs.Number.{edgeOf}
+use Rattle.intersection_set.specs.Pool.{Pool, poolOf}
+use Rattle.intersection_set.specs.declared.utils.Taken.{Taken}
+use Rattle.intersection_set.proofs.Words.{in-ends, in-nexts}
+use Rattle.intersection_set.proofs.Lengths.{slot-lt, take-ok, append-ok, edges-ok, links-ok, head-ok-1, head-ok-2, old-ok, old-ok-2, push-steps}
 use borrow.Author.Needs.{needs}
 use Rattle.intersection_set.proofs.intersection_set.push.Statement.{statement}
 use Rattle.intersection_set.proofs.intersection_set.push.Tie as tie
-use Rattle.intersection_set.proofs.intersection_set.push.Reads as reads
-use Rattle.intersection_set.proofs.intersection_set.push.Lts as lts
-use Rattle.intersection_set.proofs.intersection_set.put_record.Reads as put-record-reads
-use Rattle.intersection_set.proofs.intersection_set.set_prev.Reads as set-prev-reads
-use Rattle.intersection_set.proofs.intersection_set.take_head.Reads as take-head-reads
-use Rattle.intersection_set.proofs.utils.alloc.Reads as alloc-reads
 
--- src/intersection_set.rt:249:9
+-- the pool as it came
+abbrev pool : tie.Start → Pool
+pool c =
+    let a = c .args in
+    poolOf (now (a .heads)) (now (a .ends)) (now (a .links)) (now (a .dense)) (now (a .reverse)) (now (a .free)) (a .c)
+
+-- the edges to record
+abbrev e0 : tie.Start → Edge
+e0 c = edgeOf (c .args .isect .min)
+
+abbrev e1 : tie.Start → Edge
+e1 c = edgeOf (c .args .isect .max)
+
+-- the slot that was taken is in range
+slot-in : (c : tie.After-alloc) → c .alloc .result .slot .0 < c .before .before .before .before .before .before .before .before .before .args .n * (c .before .before .before .before .before .before .before .before .before .args .n - 1)
+slot-in c =
+    let b = c .before .before .before .before .before .before .before .before .before in
+    subst⁻¹ (λ (t : Taken). t .slot .0 < b .args .n * (b .args .n - 1)) (c .alloc .ensures .0) (slot-lt (b .args .n) (pool b) (b .pre .good) (b .pre .room))
+
 alloc-requires : tie.Need-alloc-requires
-alloc-requires c κs = ?
+alloc-requires c κs = let b = c .before .before .before .before .before .before .before .before in
+    let n = b .args .n in
+    (take-ok n (pool b) (b .pre .good), append-ok n (e0 b) (e1 b) (pool b) _ (b .pre) (slot-lt n (pool b) (b .pre .good) (b .pre .room)))
 
--- src/intersection_set.rt:253:9
 take-head-requires : tie.Need-take-head-requires
-take-head-requires c κs = ?
+take-head-requires c κs = let b = c .before .before .before .before .before .before .before .before .before .before .before .before .before .before .before .before .before in head-ok-1 (b .args .n) (e0 b) (e1 b) (pool b) _ (b .pre) (slot-in (c .before .before .before .before .before .before .before .before))
 
--- src/intersection_set.rt:254:9
 take-head-requires-2 : tie.Need-take-head-requires-2
-take-head-requires-2 c κs = ?
+take-head-requires-2 c κs = let b = c .before .before .before .before .before .before .before .before .before .before .before .before .before .before .before .before .before .before .before .before .before in head-ok-2 (b .args .n) (e0 b) (e1 b) (pool b) _ (b .pre) (slot-in (c .before .before .before .before .before .before .before .before .before .before .before .before)) (c .before .before .before .take-head .ensures .1)
 
--- src/intersection_set.rt:255:5
 put-record-requires : tie.Need-put-record-requires
-put-record-requires c κs = ?
+put-record-requires c κs = let b = c .before .before .before .before .before .before .before .before .before .before .before .before .before .before .before .before .before .before .before .before .before .before .before .before .before .before in (in-ends (now (b .args .ends)) _ (edges-ok (b .args .n) (e0 b) (e1 b) (pool b) _ (b .pre) (slot-in (c .before .before .before .before .before .before .before .before .before .before .before .before .before .before .before .before .before))), in-nexts (now (b .args .links)) _ (links-ok (b .args .n) (e0 b) (e1 b) (pool b) _ (b .pre) (slot-in (c .before .before .before .before .before .before .before .before .before .before .before .before .before .before .before .before .before))))
 
--- src/intersection_set.rt:256:5
 set-prev-requires : tie.Need-set-prev-requires
-set-prev-requires c κs = ?
+set-prev-requires c κs = let b = c .before .before .before .before .before .before .before .before .before .before .before .before .before .before .before .before .before .before .before .before .before .before .before .before .before .before .before .before .before .before .before .before .before in old-ok (b .args .n) (e0 b) (e1 b) (pool b) _ (b .pre) (slot-in (c .before .before .before .before .before .before .before .before .before .before .before .before .before .before .before .before .before .before .before .before .before .before .before .before)) (c .before .before .before .before .before .before .put-record .ensures .0) (c .before .before .before .before .before .before .put-record .ensures .2) (c .before .before .before .before .before .before .before .before .before .before .before .before .before .before .before .take-head .ensures .0)
 
--- src/intersection_set.rt:257:5
 set-prev-requires-2 : tie.Need-set-prev-requires-2
-set-prev-requires-2 c κs = ?
+set-prev-requires-2 c κs = let b = c .before .before .before .before .before .before .before .before .before .before .before .before .before .before .before .before .before .before .before .before .before .before .before .before .before .before .before .before .before .before .before .before .before .before .before .before .before .before in old-ok-2 (b .args .n) (e0 b) (e1 b) (pool b) _ (b .pre) (slot-in (c .before .before .before .before .before .before .before .before .before .before .before .before .before .before .before .before .before .before .before .before .before .before .before .before .before .before .before .before .before)) (c .before .before .before .before .before .before .before .before .before .before .before .put-record .ensures .0) (c .before .before .before .before .before .before .before .before .before .before .before .put-record .ensures .2) (c .before .before .before .before .before .before .before .before .before .before .before .before .before .before .before .before .before .before .before .before .take-head .ensures .0) (c .before .before .before .before .before .before .before .before .before .before .before .before .before .before .before .before .before .before .before .before .take-head .ensures .1) (c .before .before .before .before .before .before .before .before .before .before .before .before .before .before .before .before .take-head2 .ensures .0) (c .before .before .before .before .set-prev .ensures .0)
 
--- src/intersection_set.rt:234:1
 same-length : tie.Need-same-length
 same-length c = search needs
 
--- src/intersection_set.rt:234:1
 same-length-2 : tie.Need-same-length-2
 same-length-2 c = search needs
 
--- src/intersection_set.rt:234:1
 same-length-3 : tie.Need-same-length-3
 same-length-3 c = search needs
 
--- src/intersection_set.rt:234:1
 same-length-4 : tie.Need-same-length-4
-same-length-4 c = ?
+same-length-4 c = c .before .before .before .before .before .before .before .before .before .before .before .before .before .before .before .before .before .before .before .before .before .before .before .before .before .before .before .before .before .before .before .before .before .alloc .kept .1 .0
 
--- src/intersection_set.rt:234:1
 same-length-5 : tie.Need-same-length-5
-same-length-5 c = ?
+same-length-5 c = c .before .before .before .before .before .before .before .before .before .before .before .before .before .before .before .before .before .before .before .before .before .before .before .before .before .before .before .before .before .before .before .before .before .alloc .kept .1 .1 .0
 
--- src/intersection_set.rt:234:1
 returns : tie.Need-returns
-returns c = ?
+returns c = let b = c .before .before .before .before .before .before .before .before .before .before .before .before .before .before .before .before .before .before .before .before .before .before .before .before .before .before .before .before .before .before .before .before .before .before .before .before .before .before .before .before .before .before in
+    push-steps (b .args .n) (e0 b) (e1 b) (pool b) (b .pre) (c .before .before .before .before .before .before .before .before .before .before .before .before .before .before .before .before .before .before .before .before .before .before .before .before .before .before .before .before .before .before .before .before .before .alloc .ensures .0) (c .before .before .before .before .before .before .before .before .before .before .before .before .before .before .before .before .before .before .before .before .before .before .before .before .before .before .before .before .before .before .before .before .before .alloc .ensures .1) (c .before .before .before .before .before .before .before .before .before .before .before .before .before .before .before .before .before .before .before .before .before .before .before .before .take-head .ensures) (c .before .before .before .before .before .before .before .before .before .before .before .before .before .before .before .before .before .before .before .before .take-head2 .ensures) (c .before .before .before .before .before .before .before .before .before .before .before .before .before .before .before .put-record .ensures) (c .before .before .before .before .before .before .before .before .set-prev .ensures) (c .before .before .before .set-prev2 .ensures)
 
 pub push-spec : {M : Type 1} → statement M
 push-spec =

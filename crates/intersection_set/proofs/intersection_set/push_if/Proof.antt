@@ -1,46 +1,65 @@
+-- `push_if` meets its contract: where it pushes, buffers that held a store hold the store after the push.
+use denote.Ref.{now}
+use Rattle.index_edge.specs.Edge.{Edge}
+use Rattle.index_edge.specs.Number.{edgeOf}
+use Rattle.intersection_set.specs.Pool.{Pool, poolOf}
+use Rattle.intersection_set.proofs.PastTheEnd.{beyond-self}
+use Rattle.intersection_set.proofs.Pushing.{push-allowed, push-holds, push-beyond, no-push-holds}
 use borrow.Author.Needs.{needs}
 use Rattle.intersection_set.proofs.intersection_set.push_if.Statement.{statement}
 use Rattle.intersection_set.proofs.intersection_set.push_if.Tie as tie
-use Rattle.intersection_set.proofs.intersection_set.push_if.Reads as reads
-use Rattle.intersection_set.proofs.intersection_set.push_if.Lts as lts
-use Rattle.intersection_set.proofs.intersection_set.IndexIntersection.new.Reads as new-reads
-use Rattle.intersection_set.proofs.intersection_set.push.Reads as push-reads
 
--- src/intersection_set.rt:281:13
+-- the pool as it came
+abbrev pool : tie.Start → Pool
+pool c =
+    let a = c .args in
+    poolOf (now (a .heads)) (now (a .ends)) (now (a .links)) (now (a .dense)) (now (a .reverse)) (now (a .free)) (a .c)
+
+abbrev e : tie.Start → Edge
+e c = edgeOf (c .args .a)
+
+abbrev f : tie.Start → Edge
+f c = edgeOf (c .args .b)
+
 new-requires : tie.Need-new-requires
 new-requires c κs = search needs
 
--- src/intersection_set.rt:282:9
 push-requires : tie.Need-push-requires
-push-requires c κs = ?
+push-requires c κs = let b = c .before .before .before .before .before .before .before .before .before .before .before .before .before in
+    let m = b .pre (c .before .before .before .before .before .before .if1 .taken) in
+    push-allowed (b .args .n) (pool b) (m .0) (m .1) (e b) (f b) (c .before .before .before .before .before .new .ensures .0) (c .before .before .before .before .before .new .ensures .1) (m .2)
 
--- src/intersection_set.rt:262:1
 same-length : tie.Need-same-length
 same-length c = search needs
 
--- src/intersection_set.rt:262:1
 same-length-2 : tie.Need-same-length-2
 same-length-2 c = search needs
 
--- src/intersection_set.rt:262:1
 same-length-3 : tie.Need-same-length-3
 same-length-3 c = search needs
 
--- src/intersection_set.rt:262:1
 same-length-4 : tie.Need-same-length-4
 same-length-4 c = search needs
 
--- src/intersection_set.rt:262:1
 same-length-5 : tie.Need-same-length-5
 same-length-5 c = search needs
 
--- src/intersection_set.rt:262:1
 returns : tie.Need-returns
-returns c = ?
+returns c = let b = c .before .before .before .before .before .before .before .before .before .before .before .before .before .before .before .before .before .before .before .before .before .before .before .before in
+    let n = b .args .n in
+    let t = c .before .before .before .before .before .before .before .before .before .before .before .before .before .before .before .before .before .if1 .taken in
+    let ee = c .before .before .before .before .before .before .before .before .before .before .before .before .before .before .before .before .new .ensures .0 in
+    let ef = c .before .before .before .before .before .before .before .before .before .before .before .before .before .before .before .before .new .ensures .1 in
+    let m = b .pre t in (
+      λ s h may. push-holds n (pool b) s h (e b) (f b) ee ef (may t) (c .before .before .before .before .before .before .before .before .before .before .push .ensures) t,
+      push-beyond n (pool b) (m .0) (m .1) (e b) (f b) ee ef (m .2) (c .before .before .before .before .before .before .before .before .before .before .push .ensures),
+    )
 
--- src/intersection_set.rt:262:1
 returns-2 : tie.Need-returns-2
-returns-2 c = ?
+returns-2 c = let b = c .before .before .before .before .before .before .before in (
+      λ s h may. no-push-holds (b .args .n) (pool b) s h (e b) (f b) (c .if1 .left),
+      beyond-self _ (pool b),
+    )
 
 pub push-if-spec : {M : Type 1} → statement M
 push-if-spec =

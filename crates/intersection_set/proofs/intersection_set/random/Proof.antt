@@ -1,38 +1,50 @@
+-- `random` meets its contract: the dense entry that the pick takes is the slot of a live record, which holds its edges.
+use Prim.Native.Nat.{ℕ, _%_, _<_}
+use native.Mathlib.Omega.{arith}
+use lib.ListN.{length, getD}
+use denote.Ref.{now}
+use mathlib.Core.Path.{_∙_}
+use Rattle.intersection_set.specs.Pool.{edgesOf}
+use Rattle.intersection_set.specs.Within.{InEdges}
+use Rattle.intersection_set.proofs.Words.{in-ends}
+use Rattle.intersection_set.proofs.Picking.{pick-in-dense, pick-in-edges, picked-first, picked-second}
 use borrow.Author.Needs.{needs}
 use Rattle.intersection_set.proofs.intersection_set.random.Statement.{statement}
 use Rattle.intersection_set.proofs.intersection_set.random.Tie as tie
-use Rattle.intersection_set.proofs.intersection_set.random.Reads as reads
-use Rattle.intersection_set.proofs.intersection_set.random.Lts as lts
-use Rattle.intersection_set.proofs.intersection_set.edge0_at.Reads as edge0-at-reads
-use Rattle.intersection_set.proofs.intersection_set.edge1_at.Reads as edge1-at-reads
 
--- src/intersection_set.rt:404:14
+-- the store that the caller knows of
+inside : (c : tie.Start) → c .args .pick % c .args .c .live < length (c .args .dense .now)
+inside c = let q = c .pre .1 in pick-in-dense (q .0) (q .1) (q .2) (q .3) (q .4) (q .5) (q .6) (c .args .pick) (c .pre .0)
+
+abbrev slot : tie.Start → ℕ
+slot c = getD (c .args .dense .now) (c .args .pick % c .args .c .live) 0
+
+within : (c : tie.Start) → InEdges (slot c) (edgesOf (now (c .args .ends)))
+within c = let q = c .pre .1 in pick-in-edges (q .0) (q .1) (q .2) (q .3) (q .4) (q .5) (q .6) (c .args .pick) (c .pre .0)
+
 rem-at : tie.Need-rem-at
 rem-at c = search needs
 
--- src/intersection_set.rt:405:25
 mul-t9 : tie.Need-mul-t9
-mul-t9 c = ?
+mul-t9 c = omega (arith, inside (c .before .before), c .before .before .good)
 
--- src/intersection_set.rt:405:25
 shared-slice-read-t11 : tie.Need-shared-slice-read-t11
-shared-slice-read-t11 c = ?
+shared-slice-read-t11 c = inside (c .before .before .before)
 
--- src/intersection_set.rt:406:13
 cast-i : tie.Need-cast-i
 cast-i c = search needs
 
--- src/intersection_set.rt:408:14
 edge0-at-requires : tie.Need-edge0-at-requires
-edge0-at-requires c κs = ?
+edge0-at-requires c κs = in-ends (now (c .before .before .before .before .args .ends)) _ (within (c .before .before .before .before) .in-min0)
 
--- src/intersection_set.rt:409:14
 edge1-at-requires : tie.Need-edge1-at-requires
-edge1-at-requires c κs = ?
+edge1-at-requires c κs = in-ends (now (c .before .before .before .before .before .args .ends)) _ (within (c .before .before .before .before .before) .in-min0)
 
--- src/intersection_set.rt:393:1
 returns : tie.Need-returns
-returns c = ?
+returns c = λ n p s h ev ed ec. (
+      c .before .edge0-at .ensures ∙ picked-first n p s h ev ed ec (c .before .before .before .before .before .before .args .pick) (c .before .before .before .before .before .before .pre .0),
+      c .edge1-at .ensures ∙ picked-second n p s h ev ed ec (c .before .before .before .before .before .before .args .pick) (c .before .before .before .before .before .before .pre .0),
+    )
 
 pub random-spec : {M : Type 1} → statement M
 random-spec =

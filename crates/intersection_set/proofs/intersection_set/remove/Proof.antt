@@ -1,88 +1,89 @@
+-- `remove` meets its contract: each call's contract is one step of `poolRemove`, in the same order.
+use mathlib.Core.Path.{sym, _∙_}
+use denote.Ref.{now}
+use Rattle.index_edge.specs.Number.{edgeOf}
+use Rattle.intersection_set.specs.Pool.{Pool, poolOf}
+use Rattle.intersection_set.proofs.Words.{in-ends, in-nexts, next0-reads, prev0-reads, next1-reads, prev1-reads}
+use Rattle.intersection_set.proofs.Lengths.{ReadAt, unlink-ok, unlink-ok-2, remove-steps}
 use borrow.Author.Needs.{needs}
 use Rattle.intersection_set.proofs.intersection_set.remove.Statement.{statement}
 use Rattle.intersection_set.proofs.intersection_set.remove.Tie as tie
-use Rattle.intersection_set.proofs.intersection_set.remove.Reads as reads
-use Rattle.intersection_set.proofs.intersection_set.remove.Lts as lts
-use Rattle.intersection_set.proofs.intersection_set.edge0_at.Reads as edge0-at-reads
-use Rattle.intersection_set.proofs.intersection_set.edge1_at.Reads as edge1-at-reads
-use Rattle.intersection_set.proofs.intersection_set.low0.Reads as low0-reads
-use Rattle.intersection_set.proofs.intersection_set.low1.Reads as low1-reads
-use Rattle.intersection_set.proofs.intersection_set.low2.Reads as low2-reads
-use Rattle.intersection_set.proofs.intersection_set.low3.Reads as low3-reads
-use Rattle.intersection_set.proofs.intersection_set.unlink.Reads as unlink-reads
-use Rattle.intersection_set.proofs.utils.release.Reads as release-reads
 
--- src/intersection_set.rt:343:13
+-- the pool as it came
+abbrev pool : tie.Start → Pool
+pool c =
+    let a = c .args in
+    poolOf (now (a .heads)) (now (a .ends)) (now (a .links)) (now (a .dense)) (now (a .reverse)) (now (a .free)) (a .c)
+
+-- what is read of the record
+read : (c : tie.After-low3) → let b = c .before .before .before .before .before .before .before .before .before .before .before .before .before .before in ReadAt (pool b) (b .args .s .0) (edgeOf (c .before .before .before .before .before .before .edge0-at .result)) (edgeOf (c .before .before .before .before .before .edge1-at .result)) (c .before .before .before .low0 .result) (c .before .before .low1 .result) (c .before .low2 .result) (c .low3 .result)
+read c =
+    let l = now (c .before .before .before .before .before .before .before .before .before .before .before .before .before .before .args .links) in
+    let s = c .before .before .before .before .before .before .before .before .before .before .before .before .before .before .args .s .0 in
+    record {
+      edge0 = c .before .before .before .before .before .before .edge0-at .ensures;
+      edge1 = c .before .before .before .before .before .edge1-at .ensures;
+      next0 = c .before .before .before .low0 .ensures ∙ sym (next0-reads l s);
+      prev0 = c .before .before .low1 .ensures ∙ sym (prev0-reads l s);
+      next1 = c .before .low2 .ensures ∙ sym (next1-reads l s);
+      prev1 = c .low3 .ensures ∙ sym (prev1-reads l s);
+    }
+
 cast-i : tie.Need-cast-i
 cast-i c = search needs
 
--- src/intersection_set.rt:344:9
 edge0-at-requires : tie.Need-edge0-at-requires
-edge0-at-requires c κs = ?
+edge0-at-requires c κs = let b = c .before .before .before .before .before .before .before in in-ends (now (b .args .ends)) (b .args .s .0) (b .pre .in-edges .in-min0)
 
--- src/intersection_set.rt:345:9
 edge1-at-requires : tie.Need-edge1-at-requires
-edge1-at-requires c κs = ?
+edge1-at-requires c κs = let b = c .before .before .before .before .before .before .before .before in in-ends (now (b .args .ends)) (b .args .s .0) (b .pre .in-edges .in-min0)
 
--- src/intersection_set.rt:346:13
 mul-w : tie.Need-mul-w
 mul-w c = search needs
 
--- src/intersection_set.rt:346:13
 slice-read-w : tie.Need-slice-read-w
-slice-read-w c = ?
+slice-read-w c = let b = c .before .before .before .before .before .before .before .before .before .before in in-nexts (now (b .args .links)) (b .args .s .0) (b .pre .in-links .in-next0)
 
--- src/intersection_set.rt:347:26
 low0-requires : tie.Need-low0-requires
 low0-requires c κs = search needs
 
--- src/intersection_set.rt:348:26
 low1-requires : tie.Need-low1-requires
 low1-requires c κs = search needs
 
--- src/intersection_set.rt:349:26
 low2-requires : tie.Need-low2-requires
 low2-requires c κs = search needs
 
--- src/intersection_set.rt:350:26
 low3-requires : tie.Need-low3-requires
 low3-requires c κs = search needs
 
--- src/intersection_set.rt:351:5
 unlink-requires : tie.Need-unlink-requires
-unlink-requires c κs = ?
+unlink-requires c κs = let b = c .before .before .before .before .before .before .before .before .before .before .before .before .before .before .before .before in unlink-ok (b .args .n) (b .args .s .0) (pool b) (b .pre) (read (c .before .before))
 
--- src/intersection_set.rt:352:5
 unlink-requires-2 : tie.Need-unlink-requires-2
-unlink-requires-2 c κs = ?
+unlink-requires-2 c κs = let b = c .before .before .before .before .before .before .before .before .before .before .before .before .before .before .before .before .before .before .before .before .before .before .before in unlink-ok-2 (b .args .n) (b .args .s .0) (pool b) (b .pre) (read (c .before .before .before .before .before .before .before .before .before)) (c .before .before .before .before .before .before .unlink .ensures)
 
--- src/intersection_set.rt:353:5
 release-requires : tie.Need-release-requires
-release-requires c κs = ?
+release-requires c κs = (c .before .before .before .before .before .before .before .before .before .before .before .before .before .before .before .before .before .before .before .before .before .before .before .before .before .before .before .before .before .before .before .pre .drops, c .before .before .before .before .before .before .before .before .before .before .before .before .before .before .before .before .before .before .before .before .before .before .before .before .before .before .before .before .before .before .before .pre .in-free)
 
--- src/intersection_set.rt:328:1
 same-length : tie.Need-same-length
 same-length c = search needs
 
--- src/intersection_set.rt:328:1
 same-length-2 : tie.Need-same-length-2
 same-length-2 c = search needs
 
--- src/intersection_set.rt:328:1
 same-length-3 : tie.Need-same-length-3
 same-length-3 c = search needs
 
--- src/intersection_set.rt:328:1
 same-length-4 : tie.Need-same-length-4
 same-length-4 c = search needs
 
--- src/intersection_set.rt:328:1
 same-length-5 : tie.Need-same-length-5
 same-length-5 c = search needs
 
--- src/intersection_set.rt:328:1
 returns : tie.Need-returns
-returns c = ?
+returns c = let b = c .before .before .before .before .before .before .before .before .before .before .before .before .before .before .before .before .before .before .before .before .before .before .before .before .before .before .before .before .before .before .before .before .before .before .before .before .before .before in
+    let r = c .before .before .before .before .before .before .release .ensures in
+    remove-steps (b .args .n) (b .args .s .0) (pool b) (read (c .before .before .before .before .before .before .before .before .before .before .before .before .before .before .before .before .before .before .before .before .before .before .before .before)) (c .before .before .before .before .before .before .before .before .before .before .before .before .before .before .before .before .before .before .before .before .before .unlink .ensures) (c .before .before .before .before .before .before .before .before .before .before .before .before .before .before .unlink2 .ensures) (r .0) (r .1) (r .2)
 
 pub remove-spec : {M : Type 1} → statement M
 remove-spec =

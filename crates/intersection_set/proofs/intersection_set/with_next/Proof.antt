@@ -7,7 +7,7 @@ use Rattle.intersection_set.proofs.intersection_set.with_next.Statement
 use Rattle.intersection_set.proofs.intersection_set.with_next.Tie as tie
 
 anew : (c : tie.After-next-unit) → Anew (c .next-unit .result) (c .before .args .w) (c .before .args .v)
-anew c = subst⁻¹ (λ (u : ℕ). Anew u (c .before .args .w) (c .before .args .v)) (c .next-unit .ensures) (anew-next (c .before .args .w) (c .before .args .v) (c .before .good .1 .0) (c .before .good .1 .1 .0) (c .before .args .first))
+anew c = subst⁻¹ (λ (u : ℕ). Anew u (c .before .args .w) (c .before .args .v)) (c .next-unit .ensures) (anew-next (c .before .args .w) (c .before .args .v) (omega (arith, c .before .good)) (omega (arith, c .before .good)) (c .before .args .first))
 
 next-unit-requires : tie.Need-next-unit-requires
 next-unit-requires c κs = search needs
@@ -16,19 +16,19 @@ div-result : tie.Need-div-result
 div-result c = anew c .some
 
 mul-result : tie.Need-mul-result
-mul-result c = omega (arith, anew c .part, c .before .good .1 .0)
+mul-result c = omega (arith, anew c .part, c .before .good)
 
 sub-result : tie.Need-sub-result
 sub-result c = anew c .part
 
 mul-result-2 : tie.Need-mul-result-2
-mul-result-2 c = anew c .fits
+mul-result-2 c = omega (arith, anew c .fits)
 
 add-result : tie.Need-add-result
-add-result c = anew c .whole
+add-result c = omega (arith, anew c .whole)
 
 returns : tie.Need-returns
-returns c = rw (c .next-unit .ensures) (next-anew (c .before .args .w) (c .before .args .v) (c .before .good .1 .0) (c .before .good .1 .1 .0) (c .before .args .first))
+returns c = rw (c .next-unit .ensures) (next-anew (c .before .args .w) (c .before .args .v) (omega (arith, c .before .good)) (omega (arith, c .before .good)) (c .before .args .first))
 
 pub with-next-spec : {M : Type 1} → statement M
 with-next-spec =
