@@ -14,7 +14,7 @@ use Rattle.algebra.specs.Cases.{both, eq-cases}
 use Rattle.index_edge.specs.Edge.{Edge, eqE}
 use Rattle.index_edge.proofs.Edges.{eqE-refl, eqE-sym}
 use Rattle.intersection_set.specs.Lists.{none, headPlace}
-use Rattle.intersection_set.specs.Pool.{Ends, ends, Edges, Links, Order, Pool, countsOf, takeSlot, densePush, denseRemove, edgeAt, end0, end1, setEnd, headAt, linkFront, setHead, unlinkFrom, putEdges, putEnds, clearEnds, poolPush, poolRemove, poolRemoveAll}
+use Rattle.intersection_set.specs.Pool.{Ends, ends, Edges, Links, Order, Pool, Buffers, countsOf, takeSlot, densePush, denseRemove, edgeAt, end0, end1, setEnd, headAt, linkFront, setHead, unlinkFrom, putEdges, putEnds, clearEnds, poolPush, poolRemove, poolRemoveAll}
 use Rattle.intersection_set.specs.Within.{Proper, TakeOk, AppendOk, EndOk, HeadOk, UnlinkOk, Sized, Good, PushOk, RemoveOk, Drained}
 use Rattle.intersection_set.specs.declared.utils.Counts.{Counts}
 use Rattle.intersection_set.specs.declared.utils.Taken.{Taken}
@@ -206,6 +206,18 @@ sized-same z g =
       in-reverse = rw (z .reverse) (g .in-reverse);
       in-free = rw (z .free) (g .in-free);
     }
+
+-- ---- the same of what is lent
+pub record AsLong (b d : Buffers) : Type 0 where
+  pub heads : length (b .heads) ≡ length (d .heads)
+  pub ends : length (b .ends) ≡ length (d .ends)
+  pub links : length (b .links) ≡ length (d .links)
+  pub dense : length (b .dense) ≡ length (d .dense)
+  pub reverse : length (b .reverse) ≡ length (d .reverse)
+  pub free : length (b .free) ≡ length (d .free)
+
+pub as-long-self : (b : Buffers) → AsLong b b
+as-long-self b = record { heads = refl; ends = refl; links = refl; dense = refl; reverse = refl; free = refl }
 
 pub sizes-push : (n : ℕ) (e0 e1 : Edge) (p : Pool) → SameSize (poolPush n e0 e1 p) p
 unfolding poolPush linkFront putEdges clearEnds densePush

@@ -11,17 +11,41 @@ use lib.ListN.{set, drop}
 use lib.Seq.{drop-set-lt}
 use Rattle.index_edge.specs.Edge.{Edge, eqE}
 use Rattle.intersection_set.specs.Lists.{none, headPlace}
-use Rattle.intersection_set.specs.Pool.{Ends, ends, Links, Pool, takeSlot, densePush, edgeAt, setEnd, headAt, linkFront, setHead, unlinkFrom, putEdges, clearEnds, clearLinks, poolPush}
+use Rattle.intersection_set.specs.Pool.{Ends, ends, Links, Pool, Buffers, edgesOf, nextsOf, prevsOf, poolOf, takeSlot, densePush, edgeAt, setEnd, headAt, linkFront, setHead, unlinkFrom, putEdges, clearEnds, clearLinks, poolPush}
 use Rattle.intersection_set.specs.Within.{PushOk}
+use Rattle.intersection_set.specs.declared.utils.Counts.{Counts}
 use Rattle.intersection_set.specs.Holds.{Beyond}
+use Rattle.intersection_set.proofs.Words.{same-words}
 use Rattle.intersection_set.proofs.Lengths.{slot-lt, place-lt, head-set}
 
-pub beyond-self : (m : ℕ) (p : Pool) → Beyond m p p
-beyond-self m p =
+pub beyond-self : (m : ℕ) (b : Buffers) → Beyond m b b
+beyond-self m b = record { heads = refl; ends = refl; links = refl; dense = refl; reverse = refl; free = refl }
+
+pub beyond-then : {m : ℕ} {b d e : Buffers} → Beyond m b d → Beyond m d e → Beyond m b e
+beyond-then s t =
+    record { heads = s .heads ∙ t .heads; ends = s .ends ∙ t .ends; links = s .links ∙ t .links; dense = s .dense ∙ t .dense; reverse = s .reverse ∙ t .reverse; free = s .free ∙ t .free }
+
+-- ---- the same of a pool, field by field
+pub record Past (m : ℕ) (p q : Pool) : Type 0 where
+  pub heads : drop m (p .links .heads) ≡ drop m (q .links .heads)
+  pub next0 : drop m (p .links .next .x0) ≡ drop m (q .links .next .x0)
+  pub prev0 : drop m (p .links .prev .x0) ≡ drop m (q .links .prev .x0)
+  pub next1 : drop m (p .links .next .x1) ≡ drop m (q .links .next .x1)
+  pub prev1 : drop m (p .links .prev .x1) ≡ drop m (q .links .prev .x1)
+  pub min0 : drop m (p .edges .min0) ≡ drop m (q .edges .min0)
+  pub max0 : drop m (p .edges .max0) ≡ drop m (q .edges .max0)
+  pub min1 : drop m (p .edges .min1) ≡ drop m (q .edges .min1)
+  pub max1 : drop m (p .edges .max1) ≡ drop m (q .edges .max1)
+  pub dense : drop m (p .order .dense) ≡ drop m (q .order .dense)
+  pub reverse : drop m (p .order .reverse) ≡ drop m (q .order .reverse)
+  pub free : drop m (p .free) ≡ drop m (q .free)
+
+pub past-self : (m : ℕ) (p : Pool) → Past m p p
+past-self m p =
     record { heads = refl; next0 = refl; prev0 = refl; next1 = refl; prev1 = refl; min0 = refl; max0 = refl; min1 = refl; max1 = refl; dense = refl; reverse = refl; free = refl }
 
-pub beyond-then : {m : ℕ} {p q r : Pool} → Beyond m p q → Beyond m q r → Beyond m p r
-beyond-then s t =
+pub past-after : {m : ℕ} {p q r : Pool} → Past m p q → Past m q r → Past m p r
+past-after s t =
     record {
       heads = s .heads ∙ t .heads;
       next0 = s .next0 ∙ t .next0;
@@ -35,6 +59,19 @@ beyond-then s t =
       dense = s .dense ∙ t .dense;
       reverse = s .reverse ∙ t .reverse;
       free = s .free ∙ t .free;
+    }
+
+-- words whose numbers are the same are the same
+pub beyond-words : (m : ℕ) (b d : Buffers) {c k : Counts} → Past m (poolOf b c) (poolOf d k) → Beyond m b d
+unfolding edgesOf nextsOf prevsOf
+beyond-words m b d h =
+    record {
+      heads = h .heads;
+      ends = same-words m (b .ends) (d .ends) (h .min0) (h .max0) (h .min1) (h .max1);
+      links = same-words m (b .links) (d .links) (h .next0) (h .prev0) (h .next1) (h .prev1);
+      dense = h .dense;
+      reverse = h .reverse;
+      free = h .free;
     }
 
 -- ---- the links alone
@@ -79,7 +116,7 @@ module _ (m n : ℕ) (e : Edge) (min0 max0 : List ℕ) (l : Links) (place : head
       go false = refl
 
 -- ---- a push
-pub beyond-push : (n : ℕ) (e0 e1 : Edge) (p : Pool) → PushOk n e0 e1 p → Beyond (n * (n - 1)) (poolPush n e0 e1 p) p
+pub beyond-push : (n : ℕ) (e0 e1 : Edge) (p : Pool) → PushOk n e0 e1 p → Past (n * (n - 1)) (poolPush n e0 e1 p) p
 unfolding poolPush putEdges clearEnds densePush linkFront
 beyond-push n e0 e1 p ok =
     let g = ok .good in

@@ -20,7 +20,7 @@ use Rattle.intersection_set.specs.Lists.{none, slotOf}
 use Rattle.intersection_set.specs.Pool as pool
 use Rattle.intersection_set.specs.Pool.{Edges, edges, links, linkFront, Pool, end0, end1, takeSlot, putEdges, clearEnds, densePush, poolPush, pushAt, lesser, greater}
 use Rattle.intersection_set.specs.Within.{Proper, Sized, PushOk}
-use Rattle.intersection_set.specs.Holds.{Each, Sound, HeldIn, Stack, InOrder, Placed, Stored, Holds, MayPush, Beyond}
+use Rattle.intersection_set.specs.Holds.{Each, Sound, HeldIn, Stack, InOrder, Placed, Stored, Holds, MayPush}
 use Rattle.intersection_set.proofs.Slots.{numbered-kept, free-below}
 use Rattle.intersection_set.proofs.Linked.{head-in}
 use Rattle.intersection_set.proofs.Draining.{reverse-push}
@@ -30,7 +30,7 @@ use Rattle.intersection_set.proofs.Alike.{Same, same-then, front-same}
 use Rattle.intersection_set.proofs.Views.{view, At, link-is}
 use Rattle.intersection_set.proofs.Lengths.{cap-small, len-x0, len-x1, sizes-push, sized-same}
 use Rattle.intersection_set.proofs.Holding.{each-push, differ, Near, reach, LiveAt, chain-live, near-head, rep-same, holds-good, lists, lists-of, holds-of}
-use Rattle.intersection_set.proofs.PastTheEnd.{beyond-push}
+use Rattle.intersection_set.proofs.PastTheEnd.{Past, beyond-push}
 
 abbrev pub newRec : Edge → Edge → Store → Rec
 newRec a b s = recFor a b (s .pushes) (slotFor (s .free) (length (s .dense)))
@@ -279,7 +279,7 @@ module _ (n : ℕ) (p : Pool) (s : Store) (h : Holds n p s) (a b : Edge) where
   pub holds-push : MayPush n a b s → Holds n (poolPush n (lesser a b) (greater a b) p) (plain.push a b s)
   holds-push m = holds-pushed n p s (h .stored) (lists-of n p s h) a b (m .first) (m .second) (m .differ) (m .room)
 
-  pub beyond-pushed : MayPush n a b s → Beyond (n * (n - 1)) (poolPush n (lesser a b) (greater a b) p) p
+  pub beyond-pushed : MayPush n a b s → Past (n * (n - 1)) (poolPush n (lesser a b) (greater a b) p) p
   beyond-pushed m = beyond-push n (lesser a b) (greater a b) p (may-push m)
 
   -- the same of two edges and a pool that the code's steps leave
@@ -290,7 +290,7 @@ module _ (n : ℕ) (p : Pool) (s : Store) (h : Holds n p s) (a b : Edge) where
     pub push-holds : {q : Pool} {ok : Bool} → q ≡ poolPush n e f p → ok ≡ true → Holds n q (cond ok (plain.push a b s) s)
     push-holds eq t = rw (t, eq, ee, ef) (holds-push m)
 
-    pub push-beyond : {q : Pool} → q ≡ poolPush n e f p → Beyond (n * (n - 1)) q p
+    pub push-beyond : {q : Pool} → q ≡ poolPush n e f p → Past (n * (n - 1)) q p
     push-beyond eq = rw (eq, ee, ef) (beyond-pushed m)
 
   pub no-push-holds : {ok : Bool} → ok ≡ false → Holds n p (cond ok (plain.push a b s) s)

@@ -19,7 +19,7 @@ use Rattle.intersection_set.specs.Lists.{none, slotOf}
 use Rattle.intersection_set.specs.Pool as pool
 use Rattle.intersection_set.specs.Pool.{Edges, Pool, end0, end1, denseRemove, unlinkFrom, poolRemove, poolRemoveAll, headAt}
 use Rattle.intersection_set.specs.Within.{Proper, RemoveOk, HeadOk, Drained}
-use Rattle.intersection_set.specs.Holds.{Sound, HeldIn, InOrder, Placed, Stored, Holds, Beyond}
+use Rattle.intersection_set.specs.Holds.{Sound, HeldIn, InOrder, Placed, Stored, Holds}
 use Rattle.intersection_set.proofs.Records.{Newest, newest-is}
 use Rattle.intersection_set.proofs.Slots.{numbered-kept, slot-below, swapRemove-length}
 use Rattle.intersection_set.proofs.Draining.{stays, reverse-remove, swap-other, swap-here}
@@ -30,7 +30,7 @@ use Rattle.intersection_set.proofs.Views.{view, At, unlink-is}
 use Rattle.intersection_set.proofs.Lengths.{cap-small, place-lt, end-ok, head-ok, len-x0, len-x1, len-head, sizes-remove, sized-same, all-none, all-suc}
 use Rattle.intersection_set.proofs.Holding.{each-remove, differ, stack-set, Near, reach, near-prev, near-next, rep-same, along-first, along-second, lists, lists-of, holds-of, not-none}
 use Rattle.intersection_set.proofs.Pushing.{Long, long-sized}
-use Rattle.intersection_set.proofs.PastTheEnd.{beyond-self, beyond-then, past-unlink, past-then}
+use Rattle.intersection_set.proofs.PastTheEnd.{Past, past-self, past-after, past-unlink, past-then}
 
 long-unlink : (m n : ℕ) (e : Edge) (x y : ℕ) (min0 max0 : List ℕ) (l : pool.Links) → Long m l → Long m (unlinkFrom n e x y min0 max0 l)
 unfolding unlinkFrom
@@ -217,7 +217,7 @@ module _ (n : ℕ) (p : Pool) (s : Store) (h : Stored n p s) (rep : lists n p s)
   holds-removed : Holds n (poolRemove n (rec .slot) p) left
   holds-removed = holds-of n (poolRemove n (rec .slot) p) left stored-remove lists-removed
 
-  pub beyond-remove : Beyond (n * (n - 1)) (poolRemove n (rec .slot) p) p
+  pub beyond-remove : Past (n * (n - 1)) (poolRemove n (rec .slot) p) p
   unfolding poolRemove denseRemove
   beyond-remove =
       let m : ℕ = n * (n - 1) in
@@ -250,13 +250,13 @@ holds-remove n p s h j i = holds-removed n p s (h .stored) (lists-of n p s h) j 
 -- ---- all the records of an edge, newest first
 module _ (n : ℕ) (e : Edge) (pe : Proper n e) where
   abbrev Both : ℕ → Pool → Store → Type 0
-  Both f p s = Drained n e p × Holds n (poolRemoveAll n e f p) (removeAllFuel f e s) × Beyond (n * (n - 1)) (poolRemoveAll n e f p) p
+  Both f p s = Drained n e p × Holds n (poolRemoveAll n e f p) (removeAllFuel f e s) × Past (n * (n - 1)) (poolRemoveAll n e f p) p
 
   empty : (f : ℕ) (p : Pool) (s : Store) → Holds n p s → newestFrom e 0 (s .dense) ≡ nothing → headAt n e (p .links .heads) ≡ none → Both f p s
   empty f p s h q z = (
     Drained.empty z,
     subst⁻¹ (λ (t : Store). Holds n (poolRemoveAll n e f p) t) (stays f e s q) (subst⁻¹ (λ (t : Pool). Holds n t s) (all-none n e f p z) h),
-    subst⁻¹ (λ (t : Pool). Beyond (n * (n - 1)) t p) (all-none n e f p z) (beyond-self (n * (n - 1)) p),
+    subst⁻¹ (λ (t : Pool). Past (n * (n - 1)) t p) (all-none n e f p z) (past-self (n * (n - 1)) p),
   )
 
   head-is : (p : Pool) (s : Store) → Holds n p s → headAt n e (p .links .heads) ≡ slotFound none (newestFrom e 0 (s .dense))
@@ -281,7 +281,7 @@ module _ (n : ℕ) (e : Edge) (pe : Proper n e) where
           let r' : Both f (poolRemove n (headAt n e (p .links .heads)) p) s' = again (poolRemove n (headAt n e (p .links .heads)) p) s' h' len' in (
             Drained.some ne (subst⁻¹ (λ (y : ℕ). RemoveOk n y p) hd (remove-ok n p s (h .stored) (lists-of n p s h) k i)) (r' .0),
             subst⁻¹ (λ (y : Pool). Holds n y (removeAllFuel f e s')) (all-suc n e f p ne) (r' .1),
-            subst⁻¹ (λ (y : Pool). Beyond (n * (n - 1)) y p) (all-suc n e f p ne) (beyond-then (r' .2) (subst⁻¹ (λ (y : ℕ). Beyond (n * (n - 1)) (poolRemove n y p) p) hd (beyond-remove n p s (h .stored) (lists-of n p s h) k i))),
+            subst⁻¹ (λ (y : Pool). Past (n * (n - 1)) y p) (all-suc n e f p ne) (past-after (r' .2) (subst⁻¹ (λ (y : ℕ). Past (n * (n - 1)) (poolRemove n y p) p) hd (beyond-remove n p s (h .stored) (lists-of n p s h) k i))),
           )
 
   drain : (f : ℕ) (p : Pool) (s : Store) → Holds n p s → length (s .dense) ≤ f → Both f p s
@@ -303,13 +303,13 @@ module _ (n : ℕ) (e : Edge) (pe : Proper n e) where
     pub holds-removeAll : Holds n (poolRemoveAll n e (p .counts .live) p) (plain.removeAll e s)
     holds-removeAll = subst⁻¹ (λ (f : ℕ). Holds n (poolRemoveAll n e f p) (plain.removeAll e s)) (h .stored .live) (drain (length (s .dense)) p s h (omega arith) .1)
 
-    pub beyond-removeAll : Beyond (n * (n - 1)) (poolRemoveAll n e (p .counts .live) p) p
-    beyond-removeAll = subst⁻¹ (λ (f : ℕ). Beyond (n * (n - 1)) (poolRemoveAll n e f p) p) (h .stored .live) (drain (length (s .dense)) p s h (omega arith) .2)
+    pub beyond-removeAll : Past (n * (n - 1)) (poolRemoveAll n e (p .counts .live) p) p
+    beyond-removeAll = subst⁻¹ (λ (f : ℕ). Past (n * (n - 1)) (poolRemoveAll n e f p) p) (h .stored .live) (drain (length (s .dense)) p s h (omega arith) .2)
 
     -- the same of the pool that the code leaves
     module _ {q : Pool} (eq : q ≡ poolRemoveAll n e (p .counts .live) p) where
       pub removed-holds : Holds n q (plain.removeAll e s)
       removed-holds = rw eq holds-removeAll
 
-      pub removed-beyond : Beyond (n * (n - 1)) q p
+      pub removed-beyond : Past (n * (n - 1)) q p
       removed-beyond = rw eq beyond-removeAll

@@ -17,8 +17,9 @@ use Rattle.index_edge.specs.Edge.{Edge}
 use Rattle.index_edge.proofs.Edges.{eqE-false}
 use Rattle.intersection_set.specs.Store.{Rec, Store, noRec, names}
 use Rattle.intersection_set.specs.Lists.{none, slotOf, listOf, firstOr, headOf, placeFrom, reverseOf, stackOf, headPlace, pairAt, headsOf}
-use Rattle.intersection_set.specs.Pool.{Pool}
+use Rattle.intersection_set.specs.Pool.{Pool, Buffers, poolOf}
 use Rattle.intersection_set.specs.Holds.{Each, Sound, Stack, Placed, Holds, Shows}
+use Rattle.intersection_set.specs.declared.utils.Counts.{Counts}
 use Rattle.intersection_set.proofs.Slots.{slots-differ}
 use Rattle.intersection_set.proofs.ByAge.{listOf-count}
 
@@ -102,5 +103,7 @@ module _ (n : ℕ) (p : Pool) (s : Store) (h : Holds n p s) where
   pub free-is : take (length (s .free)) (p .free) ≡ stackOf (s .free)
   free-is = stack-is (p .free) (s .free) (omega (arith, h .stored .room, h .stored .sizes .in-free)) (h .stored .frees)
 
-  pub shows : Shows n p s
-  shows = record { heads = heads-are n p s h; dense = dense-is n p s h; reverse = reverse-is n p s h; free = free-is; edges = h .stored .held; linked = h .linked }
+pub shows : (n : ℕ) (b : Buffers) (c : Counts) (s : Store) → Holds n (poolOf b c) s → Shows n b s
+shows n b c s h =
+    let p : Pool = poolOf b c in
+    record { heads = heads-are n p s h; dense = dense-is n p s h; reverse = reverse-is n p s h; free = free-is n p s h; edges = h .stored .held; linked = h .linked }

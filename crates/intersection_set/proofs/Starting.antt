@@ -6,10 +6,11 @@ use native.Mathlib.Omega.{arith}
 use lib.ListN.{length, getD}
 use Rattle.intersection_set.specs.Store.{empty}
 use Rattle.intersection_set.specs.Lists.{headPlace}
-use Rattle.intersection_set.specs.Pool.{Pool, countsOf, fill}
-use Rattle.intersection_set.specs.Within.{Sized}
+use Rattle.intersection_set.specs.Pool.{Pool, Buffers, lent, poolOf, countsOf, fill}
+use Rattle.intersection_set.specs.Within.{Sized, Room}
 use Rattle.intersection_set.specs.Holds.{Holds}
 use Rattle.intersection_set.specs.declared.utils.Counts.{Counts}
+use Rattle.intersection_set.proofs.Words.{len-min0, len-max0, len-min1, len-max1, len-nexts, len-prevs}
 use Rattle.intersection_set.proofs.Slots.{numbered-empty}
 use Rattle.intersection_set.proofs.Filling.{fill-at}
 use Rattle.intersection_set.proofs.HeadPlaces.{head-below}
@@ -36,21 +37,25 @@ holds-start n p hs small sizes filled none-yet =
       linked = λ j i. absurd (omega arith);
     }
 
--- other heads of the same length, and other counts, leave the sizes as they were
-pub sized-start : {n : ℕ} (p : Pool) (hs : List ℕ) (c : Counts) → length hs ≡ length (p .links .heads) → Sized n p
-    → Sized n (record { edges = p .edges; links = record { heads = hs; next = p .links .next; prev = p .links .prev }; order = p .order; free = p .free; counts = c })
-sized-start p hs c q z =
+-- what is lent has room for the lists that it stands for
+pub sized-lent : {n : ℕ} (b : Buffers) (c : Counts) → Room n b → Sized n (poolOf b c)
+sized-lent b c z =
     record {
-      in-heads = rw q (z .in-heads);
-      in-next0 = z .in-next0;
-      in-prev0 = z .in-prev0;
-      in-next1 = z .in-next1;
-      in-prev1 = z .in-prev1;
-      in-min0 = z .in-min0;
-      in-max0 = z .in-max0;
-      in-min1 = z .in-min1;
-      in-max1 = z .in-max1;
+      in-heads = z .in-heads;
+      in-next0 = rw (len-nexts (b .links) .0) (z .in-links);
+      in-prev0 = rw (len-prevs (b .links) .0) (z .in-links);
+      in-next1 = rw (len-nexts (b .links) .1) (z .in-links);
+      in-prev1 = rw (len-prevs (b .links) .1) (z .in-links);
+      in-min0 = rw (len-min0 (b .ends)) (z .in-ends);
+      in-max0 = rw (len-max0 (b .ends)) (z .in-ends);
+      in-min1 = rw (len-min1 (b .ends)) (z .in-ends);
+      in-max1 = rw (len-max1 (b .ends)) (z .in-ends);
       in-dense = z .in-dense;
       in-reverse = z .in-reverse;
       in-free = z .in-free;
     }
+
+-- other heads of the same length leave the room as it was
+pub room-start : {n : ℕ} (b : Buffers) (hs : List ℕ) → length hs ≡ length (b .heads) → Room n b → Room n (lent hs (b .ends) (b .links) (b .dense) (b .reverse) (b .free))
+room-start b hs q z =
+    record { in-heads = rw q (z .in-heads); in-ends = z .in-ends; in-links = z .in-links; in-dense = z .in-dense; in-reverse = z .in-reverse; in-free = z .in-free }

@@ -5,7 +5,7 @@ use mathlib.Core.Bool.{Bool, true, false, cond}
 use mathlib.Core.List.{List, [], _∷_, map}
 use Prim.Native.Nat.{ℕ, zero, suc, _+_, _-_, _*_, _/_, _%_, _<_, _≤_}
 use native.Mathlib.Omega.{arith}
-use lib.ListN.{length, getD, set, length-map, List·getD-map}
+use lib.ListN.{length, getD, set, drop, length-map, List·getD-map}
 use lib.Seq.{map-set-same}
 use lib.Dec.{eqb}
 use borrow.Author.Tests.{ne-eqb}
@@ -90,6 +90,18 @@ module _ (w : List ℕ) where
   unfolding edgesOf
   len-min0 = length-map w part0
 
+  pub len-max0 : length (edgesOf w .max0) ≡ length w
+  unfolding edgesOf
+  len-max0 = length-map w part1
+
+  pub len-min1 : length (edgesOf w .min1) ≡ length w
+  unfolding edgesOf
+  len-min1 = length-map w part2
+
+  pub len-max1 : length (edgesOf w .max1) ≡ length w
+  unfolding edgesOf
+  len-max1 = length-map w part3
+
   pub len-nexts : (length (nextsOf w .x0) ≡ length w) × (length (nextsOf w .x1) ≡ length w)
   unfolding nextsOf
   len-nexts = (length-map w part0, length-map w part2)
@@ -138,6 +150,29 @@ same-ends w w′ q = sym (len-min0 w) ∙ q ∙ len-min0 w′
 
 pub same-links : (w w′ : List ℕ) → length (nextsOf w .x0) ≡ length (nextsOf w′ .x0) → length w ≡ length w′
 same-links w w′ q = sym (len-nexts w .0) ∙ q ∙ len-nexts w′ .0
+
+-- ---- words with the same numbers are the same words, from m on
+abbrev again : List ℕ → List ℕ → List ℕ → List ℕ → List ℕ
+again [] l m n = []
+again (a ∷ k) l m n = packed a (getD l 0 0) (getD m 0 0) (getD n 0 0) ∷ again k (drop 1 l) (drop 1 m) (drop 1 n)
+
+back : (l : List ℕ) → again (map part0 l) (map part1 l) (map part2 l) (map part3 l) ≡ l
+back [] = refl
+back (w ∷ l) = λ j. packed-parts w j ∷ back l j
+
+drop-map : (f : ℕ → ℕ) (m : ℕ) (l : List ℕ) → drop m (map f l) ≡ map f (drop m l)
+drop-map f zero l = refl
+drop-map f (suc m) [] = refl
+drop-map f (suc m) (x ∷ l) = drop-map f m l
+
+same-all : (a b : List ℕ) → map part0 a ≡ map part0 b → map part1 a ≡ map part1 b → map part2 a ≡ map part2 b → map part3 a ≡ map part3 b → a ≡ b
+same-all a b h0 h1 h2 h3 = sym (back a) ∙ (λ j. again (h0 j) (h1 j) (h2 j) (h3 j)) ∙ back b
+
+pub same-words : (m : ℕ) (a b : List ℕ) → drop m (map part0 a) ≡ drop m (map part0 b) → drop m (map part1 a) ≡ drop m (map part1 b)
+    → drop m (map part2 a) ≡ drop m (map part2 b) → drop m (map part3 a) ≡ drop m (map part3 b) → drop m a ≡ drop m b
+same-words m a b h0 h1 h2 h3 =
+    same-all (drop m a) (drop m b) (sym (drop-map part0 m a) ∙ h0 ∙ drop-map part0 m b) (sym (drop-map part1 m a) ∙ h1 ∙ drop-map part1 m b)
+    (sym (drop-map part2 m a) ∙ h2 ∙ drop-map part2 m b) (sym (drop-map part3 m a) ∙ h3 ∙ drop-map part3 m b)
 
 -- ---- a word stored
 stored : (f : ℕ → ℕ) (l : List ℕ) (i y v : ℕ) → f y ≡ v → map f (set l i y) ≡ set (map f l) i v

@@ -8,7 +8,7 @@ use Rattle.index_edge.specs.Edge.{Edge, eqE, ltE}
 use Rattle.intersection_set.specs.Store.{Rec, Store, noRec, grown}
 use Rattle.intersection_set.specs.Numbered.{Numbered}
 use Rattle.intersection_set.specs.Lists.{slotOf, headPlace, headOf, nextOf, prevOf, reverseOf, stackOf, headsOf}
-use Rattle.intersection_set.specs.Pool.{Edges, Links, Pool, end0, end1}
+use Rattle.intersection_set.specs.Pool.{Edges, Links, Pool, Buffers, edgesOf, linksOf, end0, end1}
 use Rattle.intersection_set.specs.Within.{Proper, Sized}
 
 -- a property of each record
@@ -70,13 +70,13 @@ pub record Holds (n : ℕ) (p : Pool) (s : Store) : Type 0 where
   pub linked : Each (LinkedIn (p .links) s) (s .dense)
 
 -- What a reader of the buffers sees of a store, by equations: heads in full, and of the others the live entries.
-pub record Shows (n : ℕ) (p : Pool) (s : Store) : Type 0 where
-  pub heads : take (n * (n - 1)) (p .links .heads) ≡ headsOf n s
-  pub dense : take (length (s .dense)) (p .order .dense) ≡ map slotOf (s .dense)
-  pub reverse : Each (λ r. getD (p .order .reverse) (r .slot) 0 ≡ reverseOf (r .slot) s) (s .dense)
-  pub free : take (length (s .free)) (p .free) ≡ stackOf (s .free)
-  pub edges : Each (HeldIn (p .edges)) (s .dense)
-  pub linked : Each (LinkedIn (p .links) s) (s .dense)
+pub record Shows (n : ℕ) (b : Buffers) (s : Store) : Type 0 where
+  pub heads : take (n * (n - 1)) (b .heads) ≡ headsOf n s
+  pub dense : take (length (s .dense)) (b .dense) ≡ map slotOf (s .dense)
+  pub reverse : Each (λ r. getD (b .reverse) (r .slot) 0 ≡ reverseOf (r .slot) s) (s .dense)
+  pub free : take (length (s .free)) (b .free) ≡ stackOf (s .free)
+  pub edges : Each (HeldIn (edgesOf (b .ends))) (s .dense)
+  pub linked : Each (LinkedIn (linksOf (b .heads) (b .links)) s) (s .dense)
 
 -- what a push of a and b asks of the store
 pub record MayPush (n : ℕ) (a b : Edge) (s : Store) : Type 0 where
@@ -85,17 +85,11 @@ pub record MayPush (n : ℕ) (a b : Edge) (s : Store) : Type 0 where
   pub differ : eqE a b ≡ false
   pub room : length (s .dense) < n * (n - 1)
 
--- Entries from m on are never written: there p is as q.
-pub record Beyond (m : ℕ) (p q : Pool) : Type 0 where
-  pub heads : drop m (p .links .heads) ≡ drop m (q .links .heads)
-  pub next0 : drop m (p .links .next .x0) ≡ drop m (q .links .next .x0)
-  pub prev0 : drop m (p .links .prev .x0) ≡ drop m (q .links .prev .x0)
-  pub next1 : drop m (p .links .next .x1) ≡ drop m (q .links .next .x1)
-  pub prev1 : drop m (p .links .prev .x1) ≡ drop m (q .links .prev .x1)
-  pub min0 : drop m (p .edges .min0) ≡ drop m (q .edges .min0)
-  pub max0 : drop m (p .edges .max0) ≡ drop m (q .edges .max0)
-  pub min1 : drop m (p .edges .min1) ≡ drop m (q .edges .min1)
-  pub max1 : drop m (p .edges .max1) ≡ drop m (q .edges .max1)
-  pub dense : drop m (p .order .dense) ≡ drop m (q .order .dense)
-  pub reverse : drop m (p .order .reverse) ≡ drop m (q .order .reverse)
-  pub free : drop m (p .free) ≡ drop m (q .free)
+-- Entries from m on are never written: there b is as d.
+pub record Beyond (m : ℕ) (b d : Buffers) : Type 0 where
+  pub heads : drop m (b .heads) ≡ drop m (d .heads)
+  pub ends : drop m (b .ends) ≡ drop m (d .ends)
+  pub links : drop m (b .links) ≡ drop m (d .links)
+  pub dense : drop m (b .dense) ≡ drop m (d .dense)
+  pub reverse : drop m (b .reverse) ≡ drop m (d .reverse)
+  pub free : drop m (b .free) ≡ drop m (d .free)

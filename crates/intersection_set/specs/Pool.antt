@@ -67,13 +67,25 @@ pub record Pool : Type 0 where
   pub free : List ℕ
   pub counts : Counts
 
-abbrev pub poolOf : List ℕ → List ℕ → List ℕ → List ℕ → List ℕ → List ℕ → Counts → Pool
-poolOf heads ends links dense reverse free c =
+-- the lent buffers; the counts stand in none of them
+pub record Buffers : Type 0 where
+  pub heads : List ℕ
+  pub ends : List ℕ
+  pub links : List ℕ
+  pub dense : List ℕ
+  pub reverse : List ℕ
+  pub free : List ℕ
+
+abbrev pub lent : List ℕ → List ℕ → List ℕ → List ℕ → List ℕ → List ℕ → Buffers
+lent heads ends links dense reverse free = record { heads = heads; ends = ends; links = links; dense = dense; reverse = reverse; free = free }
+
+abbrev pub poolOf : Buffers → Counts → Pool
+poolOf b c =
     record {
-      edges = edgesOf ends;
-      links = linksOf heads links;
-      order = order dense reverse;
-      free = free;
+      edges = edgesOf (b .ends);
+      links = linksOf (b .heads) (b .links);
+      order = order (b .dense) (b .reverse);
+      free = b .free;
       counts = c;
     }
 

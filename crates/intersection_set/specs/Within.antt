@@ -7,7 +7,7 @@ use Prim.Native.Nat.{ℕ, _+_, _-_, _*_, _<_, _≤_}
 use lib.ListN.{length, getD}
 use Rattle.index_edge.specs.Edge.{Edge, eqE}
 use Rattle.intersection_set.specs.Lists.{none, headPlace}
-use Rattle.intersection_set.specs.Pool.{Ends, Edges, Links, Order, Pool, end0, end1, headAt, poolRemove}
+use Rattle.intersection_set.specs.Pool.{Ends, Edges, Links, Order, Pool, Buffers, end0, end1, headAt, poolRemove}
 use Rattle.intersection_set.specs.declared.utils.Counts.{Counts}
 
 -- an edge between two of n points
@@ -78,6 +78,15 @@ pub record Sized (n : ℕ) (p : Pool) : Type 0 where
   pub in-dense : n * (n - 1) ≤ length (p .order .dense)
   pub in-reverse : n * (n - 1) ≤ length (p .order .reverse)
   pub in-free : n * (n - 1) ≤ length (p .free)
+
+-- the lent buffers have room for n points
+pub record Room (n : ℕ) (b : Buffers) : Type 0 where
+  pub in-heads : n * (n - 1) ≤ length (b .heads)
+  pub in-ends : n * (n - 1) ≤ length (b .ends)
+  pub in-links : n * (n - 1) ≤ length (b .links)
+  pub in-dense : n * (n - 1) ≤ length (b .dense)
+  pub in-reverse : n * (n - 1) ≤ length (b .reverse)
+  pub in-free : n * (n - 1) ≤ length (b .free)
 
 -- what a pool of n points keeps, as far as its indices go
 pub record Good (n : ℕ) (p : Pool) : Type 0 where

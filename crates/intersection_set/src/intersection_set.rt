@@ -11,7 +11,7 @@ ghost use Rattle.index_edge.specs.Number.{edgeOf};
 ghost use Rattle.intersection_set.specs.Store.{Store, noRec, empty, push as pushed, removeAll as allRemoved, chosen};
 ghost use Rattle.intersection_set.specs.Lists.{headPlace};
 ghost use Rattle.intersection_set.specs.Words.{packed, part0, part1, part2, part3, withNext, withPrev};
-ghost use Rattle.intersection_set.specs.Pool.{Pool, edgesOf, nextsOf, prevsOf, linksOf, poolOf, end0, end1, headAt, setEnd, setHead, unlinkFrom, putEdges, putEnds, clearEnds, poolPush, poolRemove, lesser, greater, fill};
+ghost use Rattle.intersection_set.specs.Pool.{Pool, edgesOf, nextsOf, prevsOf, linksOf, lent, poolOf, end0, end1, headAt, setEnd, setHead, unlinkFrom, putEdges, putEnds, clearEnds, poolPush, poolRemove, lesser, greater, fill};
 ghost use Rattle.intersection_set.specs.Within.{Proper, EndOk, HeadOk, UnlinkOk, Sized, PushOk, RemoveOk};
 ghost use Rattle.intersection_set.specs.Holds.{Holds, MayPush, Beyond};
 use crate::utils::Counts;
@@ -242,9 +242,9 @@ pub fn push(
     reverse: &mut [u16],
     free: &[u16],
 ) -> Counts
-    requires { ⌜ PushOk n (edgeOf (isect .min)) (edgeOf (isect .max)) (poolOf (now heads) (now ends) (now links) (now dense) (now reverse) (now free) c) ⌝ }
-    ensures { λ r. ⌜ poolOf (now (heads .exit)) (now (ends .exit)) (now (links .exit)) (now (dense .exit)) (now (reverse .exit)) (now (free .entry)) r
-        ≡ poolPush n (edgeOf (isect .min)) (edgeOf (isect .max)) (poolOf (now (heads .entry)) (now (ends .entry)) (now (links .entry)) (now (dense .entry)) (now (reverse .entry)) (now (free .entry)) c) ⌝ }
+    requires { ⌜ PushOk n (edgeOf (isect .min)) (edgeOf (isect .max)) (poolOf (lent (now heads) (now ends) (now links) (now dense) (now reverse) (now free)) c) ⌝ }
+    ensures { λ r. ⌜ poolOf (lent (now (heads .exit)) (now (ends .exit)) (now (links .exit)) (now (dense .exit)) (now (reverse .exit)) (now (free .entry))) r
+        ≡ poolPush n (edgeOf (isect .min)) (edgeOf (isect .max)) (poolOf (lent (now (heads .entry)) (now (ends .entry)) (now (links .entry)) (now (dense .entry)) (now (reverse .entry)) (now (free .entry))) c) ⌝ }
 {
     let t = alloc(c, dense, reverse, free);
     let s = t.slot;
@@ -272,10 +272,10 @@ pub fn push_if(
     reverse: &mut [u16],
     free: &[u16],
 ) -> Counts
-    requires { ⌜ (ok ≡ true → ((s : Store) × Holds n (poolOf (now heads) (now ends) (now links) (now dense) (now reverse) (now free) c) s × MayPush n (edgeOf a) (edgeOf b) s)) ⌝ }
-    ensures { λ r. ⌜ ((s : Store) → Holds n (poolOf (now (heads .entry)) (now (ends .entry)) (now (links .entry)) (now (dense .entry)) (now (reverse .entry)) (now (free .entry)) c) s → (ok ≡ true → MayPush n (edgeOf a) (edgeOf b) s)
-        → Holds n (poolOf (now (heads .exit)) (now (ends .exit)) (now (links .exit)) (now (dense .exit)) (now (reverse .exit)) (now (free .entry)) r) (cond ok (pushed (edgeOf a) (edgeOf b) s) s))
-        × Beyond (n * (n - 1)) (poolOf (now (heads .exit)) (now (ends .exit)) (now (links .exit)) (now (dense .exit)) (now (reverse .exit)) (now (free .entry)) r) (poolOf (now (heads .entry)) (now (ends .entry)) (now (links .entry)) (now (dense .entry)) (now (reverse .entry)) (now (free .entry)) c) ⌝ }
+    requires { ⌜ (ok ≡ true → ((s : Store) × Holds n (poolOf (lent (now heads) (now ends) (now links) (now dense) (now reverse) (now free)) c) s × MayPush n (edgeOf a) (edgeOf b) s)) ⌝ }
+    ensures { λ r. ⌜ ((s : Store) → Holds n (poolOf (lent (now (heads .entry)) (now (ends .entry)) (now (links .entry)) (now (dense .entry)) (now (reverse .entry)) (now (free .entry))) c) s → (ok ≡ true → MayPush n (edgeOf a) (edgeOf b) s)
+        → Holds n (poolOf (lent (now (heads .exit)) (now (ends .exit)) (now (links .exit)) (now (dense .exit)) (now (reverse .exit)) (now (free .entry))) r) (cond ok (pushed (edgeOf a) (edgeOf b) s) s))
+        × Beyond (n * (n - 1)) (lent (now (heads .exit)) (now (ends .exit)) (now (links .exit)) (now (dense .exit)) (now (reverse .exit)) (now (free .entry))) (lent (now (heads .entry)) (now (ends .entry)) (now (links .entry)) (now (dense .entry)) (now (reverse .entry)) (now (free .entry))) ⌝ }
 {
     if ok {
         let isect = IndexIntersection::new(a, b);
@@ -336,9 +336,9 @@ fn remove(
     reverse: &mut [u16],
     free: &mut [u16],
 ) -> Counts
-    requires { ⌜ RemoveOk n (s .0) (poolOf (now heads) (now ends) (now links) (now dense) (now reverse) (now free) c) ⌝ }
-    ensures { λ r. ⌜ poolOf (now (heads .exit)) (now (ends .entry)) (now (links .exit)) (now (dense .exit)) (now (reverse .exit)) (now (free .exit)) r
-        ≡ poolRemove n (s .0) (poolOf (now (heads .entry)) (now (ends .entry)) (now (links .entry)) (now (dense .entry)) (now (reverse .entry)) (now (free .entry)) c) ⌝ }
+    requires { ⌜ RemoveOk n (s .0) (poolOf (lent (now heads) (now ends) (now links) (now dense) (now reverse) (now free)) c) ⌝ }
+    ensures { λ r. ⌜ poolOf (lent (now (heads .exit)) (now (ends .entry)) (now (links .exit)) (now (dense .exit)) (now (reverse .exit)) (now (free .exit))) r
+        ≡ poolRemove n (s .0) (poolOf (lent (now (heads .entry)) (now (ends .entry)) (now (links .entry)) (now (dense .entry)) (now (reverse .entry)) (now (free .entry))) c) ⌝ }
 {
     let i = s.0 as usize;
     let e0 = edge0_at(ends, i);
@@ -365,10 +365,10 @@ pub fn remove_all(
     reverse: &mut [u16],
     free: &mut [u16],
 ) -> Counts
-    requires { ⌜ Proper n (edgeOf e) × ((s : Store) × Holds n (poolOf (now heads) (now ends) (now links) (now dense) (now reverse) (now free) c) s) ⌝ }
-    ensures { λ r. ⌜ ((s : Store) → Holds n (poolOf (now (heads .entry)) (now (ends .entry)) (now (links .entry)) (now (dense .entry)) (now (reverse .entry)) (now (free .entry)) c) s
-        → Holds n (poolOf (now (heads .exit)) (now (ends .entry)) (now (links .exit)) (now (dense .exit)) (now (reverse .exit)) (now (free .exit)) r) (allRemoved (edgeOf e) s))
-        × Beyond (n * (n - 1)) (poolOf (now (heads .exit)) (now (ends .entry)) (now (links .exit)) (now (dense .exit)) (now (reverse .exit)) (now (free .exit)) r) (poolOf (now (heads .entry)) (now (ends .entry)) (now (links .entry)) (now (dense .entry)) (now (reverse .entry)) (now (free .entry)) c) ⌝ }
+    requires { ⌜ Proper n (edgeOf e) × ((s : Store) × Holds n (poolOf (lent (now heads) (now ends) (now links) (now dense) (now reverse) (now free)) c) s) ⌝ }
+    ensures { λ r. ⌜ ((s : Store) → Holds n (poolOf (lent (now (heads .entry)) (now (ends .entry)) (now (links .entry)) (now (dense .entry)) (now (reverse .entry)) (now (free .entry))) c) s
+        → Holds n (poolOf (lent (now (heads .exit)) (now (ends .entry)) (now (links .exit)) (now (dense .exit)) (now (reverse .exit)) (now (free .exit))) r) (allRemoved (edgeOf e) s))
+        × Beyond (n * (n - 1)) (lent (now (heads .exit)) (now (ends .entry)) (now (links .exit)) (now (dense .exit)) (now (reverse .exit)) (now (free .exit))) (lent (now (heads .entry)) (now (ends .entry)) (now (links .entry)) (now (dense .entry)) (now (reverse .entry)) (now (free .entry))) ⌝ }
 {
     let mut k = c;
     let mut newest = by_edge(n, e, heads);

@@ -54,10 +54,10 @@ pub fn resolve(
     reverse: &mut [u16],
     free: &mut [u16],
 ) -> Resolved
-    requires { ⌜ Lent n (now x) (now y) × (refusal n (points (now x) (now y)) false (now ring) ≡ 0) × (now index ≡ indexOf n (now ring)) × ((c : Counts) → Sized n (poolOf (now heads) (now ends) (now links) (now dense) (now reverse) (now free) c)) ⌝ }
+    requires { ⌜ Lent n (now x) (now y) × (refusal n (points (now x) (now y)) false (now ring) ≡ 0) × (now index ≡ indexOf n (now ring)) × Room n (lent (now heads) (now ends) (now links) (now dense) (now reverse) (now free)) ⌝ }
     ensures { λ k. ⌜ Counted n (points (now (x .entry)) (now (y .entry))) (now (ring .entry)) (now (picks .entry)) (k .moves) (k .cross) (k .left)
-        × ((c : Counts) → Ended n (points (now (x .entry)) (now (y .entry))) (now (ring .entry)) (now (picks .entry)) (now (ring .exit)) (now (index .exit)) (poolOf (now (heads .exit)) (now (ends .exit)) (now (links .exit)) (now (dense .exit)) (now (reverse .exit)) (now (free .exit)) c))
-        × ((c : Counts) → Beyond (n * (n - 1)) (poolOf (now (heads .exit)) (now (ends .exit)) (now (links .exit)) (now (dense .exit)) (now (reverse .exit)) (now (free .exit)) c) (poolOf (now (heads .entry)) (now (ends .entry)) (now (links .entry)) (now (dense .entry)) (now (reverse .entry)) (now (free .entry)) c)) ⌝ }
+        × Ended n (points (now (x .entry)) (now (y .entry))) (now (ring .entry)) (now (picks .entry)) (now (ring .exit)) (now (index .exit)) (lent (now (heads .exit)) (now (ends .exit)) (now (links .exit)) (now (dense .exit)) (now (reverse .exit)) (now (free .exit)))
+        × Beyond (n * (n - 1)) (lent (now (heads .exit)) (now (ends .exit)) (now (links .exit)) (now (dense .exit)) (now (reverse .exit)) (now (free .exit))) (lent (now (heads .entry)) (now (ends .entry)) (now (links .entry)) (now (dense .entry)) (now (reverse .entry)) (now (free .entry))) ⌝ }
 {
     let started = begin(
         n,

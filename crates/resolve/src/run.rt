@@ -51,9 +51,9 @@ pub fn begin(
     reverse: &mut [u16],
     free: &[u16],
 ) -> Counts
-    requires { ⌜ Lent n (now x) (now y) × (refusal n (points (now x) (now y)) false (now ring) ≡ 0) × ((c : Counts) → Sized n (poolOf (now heads) (now ends) (now links) (now dense) (now reverse) (now free) c)) ⌝ }
-    ensures { λ k. ⌜ Holds n (poolOf (now (heads .exit)) (now (ends .exit)) (now (links .exit)) (now (dense .exit)) (now (reverse .exit)) (now (free .entry)) k) (start n (points (now (x .entry)) (now (y .entry))) (now (ring .entry)))
-        × ((c : Counts) → Beyond (n * (n - 1)) (poolOf (now (heads .exit)) (now (ends .exit)) (now (links .exit)) (now (dense .exit)) (now (reverse .exit)) (now (free .entry)) k) (poolOf (now (heads .entry)) (now (ends .entry)) (now (links .entry)) (now (dense .entry)) (now (reverse .entry)) (now (free .entry)) c)) ⌝ }
+    requires { ⌜ Lent n (now x) (now y) × (refusal n (points (now x) (now y)) false (now ring) ≡ 0) × Room n (lent (now heads) (now ends) (now links) (now dense) (now reverse) (now free)) ⌝ }
+    ensures { λ k. ⌜ Holds n (poolOf (lent (now (heads .exit)) (now (ends .exit)) (now (links .exit)) (now (dense .exit)) (now (reverse .exit)) (now (free .entry))) k) (start n (points (now (x .entry)) (now (y .entry))) (now (ring .entry)))
+        × Beyond (n * (n - 1)) (lent (now (heads .exit)) (now (ends .exit)) (now (links .exit)) (now (dense .exit)) (now (reverse .exit)) (now (free .entry))) (lent (now (heads .entry)) (now (ends .entry)) (now (links .entry)) (now (dense .entry)) (now (reverse .entry)) (now (free .entry))) ⌝ }
 {
     let none = clear(n, heads);
     sweeps(
@@ -102,11 +102,11 @@ pub fn run(
     reverse: &mut [u16],
     free: &mut [u16],
 ) -> Moved
-    requires { ⌜ Lent n (now x) (now y) × ((r : List ℕ) × Running n (points (now x) (now y)) r [] (now ring) (now index) (poolOf (now heads) (now ends) (now links) (now dense) (now reverse) (now free) c)) ⌝ }
-    ensures { λ k. ⌜ ((r : List ℕ) → Running n (points (now (x .entry)) (now (y .entry))) r [] (now (ring .entry)) (now (index .entry)) (poolOf (now (heads .entry)) (now (ends .entry)) (now (links .entry)) (now (dense .entry)) (now (reverse .entry)) (now (free .entry)) c)
-        → Running n (points (now (x .entry)) (now (y .entry))) r (now (picks .entry)) (now (ring .exit)) (now (index .exit)) (poolOf (now (heads .exit)) (now (ends .exit)) (now (links .exit)) (now (dense .exit)) (now (reverse .exit)) (now (free .exit)) (k .counts))
+    requires { ⌜ Lent n (now x) (now y) × ((r : List ℕ) × Running n (points (now x) (now y)) r [] (now ring) (now index) (poolOf (lent (now heads) (now ends) (now links) (now dense) (now reverse) (now free)) c)) ⌝ }
+    ensures { λ k. ⌜ ((r : List ℕ) → Running n (points (now (x .entry)) (now (y .entry))) r [] (now (ring .entry)) (now (index .entry)) (poolOf (lent (now (heads .entry)) (now (ends .entry)) (now (links .entry)) (now (dense .entry)) (now (reverse .entry)) (now (free .entry))) c)
+        → Running n (points (now (x .entry)) (now (y .entry))) r (now (picks .entry)) (now (ring .exit)) (now (index .exit)) (poolOf (lent (now (heads .exit)) (now (ends .exit)) (now (links .exit)) (now (dense .exit)) (now (reverse .exit)) (now (free .exit))) (k .counts))
         × (length (after n (points (now (x .entry)) (now (y .entry))) place (now (picks .entry)) r .log) ≡ k .moves))
-        × Beyond (n * (n - 1)) (poolOf (now (heads .exit)) (now (ends .exit)) (now (links .exit)) (now (dense .exit)) (now (reverse .exit)) (now (free .exit)) (k .counts)) (poolOf (now (heads .entry)) (now (ends .entry)) (now (links .entry)) (now (dense .entry)) (now (reverse .entry)) (now (free .entry)) c) ⌝ }
+        × Beyond (n * (n - 1)) (lent (now (heads .exit)) (now (ends .exit)) (now (links .exit)) (now (dense .exit)) (now (reverse .exit)) (now (free .exit))) (lent (now (heads .entry)) (now (ends .entry)) (now (links .entry)) (now (dense .entry)) (now (reverse .entry)) (now (free .entry))) ⌝ }
 {
     let m = picks.len();
     let mut k = c;

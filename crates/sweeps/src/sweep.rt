@@ -44,10 +44,10 @@ pub fn sweep(
     reverse: &mut [u16],
     free: &[u16],
 ) -> Counts
-    requires { ⌜ Lent n (now x) (now y) × IsRing n (now ring) × Board n (points (now x) (now y)) × Proper n (edgeOf edge) × ((s : Store) × Holds n (poolOf (now heads) (now ends) (now links) (now dense) (now reverse) (now free) c) s × Fits n (points (now x) (now y)) (now ring) moves (edgeOf edge) s) ⌝ }
-    ensures { λ r. ⌜ ((s : Store) → Holds n (poolOf (now (heads .entry)) (now (ends .entry)) (now (links .entry)) (now (dense .entry)) (now (reverse .entry)) (now (free .entry)) c) s → Fits n (points (now (x .entry)) (now (y .entry))) (now (ring .entry)) moves (edgeOf edge) s
-        → Holds n (poolOf (now (heads .exit)) (now (ends .exit)) (now (links .exit)) (now (dense .exit)) (now (reverse .exit)) (now (free .entry)) r) (sweepOver (points (now (x .entry)) (now (y .entry))) moves (edgeOf edge) (edges n (now (ring .entry))) s))
-        × Beyond (n * (n - 1)) (poolOf (now (heads .exit)) (now (ends .exit)) (now (links .exit)) (now (dense .exit)) (now (reverse .exit)) (now (free .entry)) r) (poolOf (now (heads .entry)) (now (ends .entry)) (now (links .entry)) (now (dense .entry)) (now (reverse .entry)) (now (free .entry)) c) ⌝ }
+    requires { ⌜ Lent n (now x) (now y) × IsRing n (now ring) × Board n (points (now x) (now y)) × Proper n (edgeOf edge) × ((s : Store) × Holds n (poolOf (lent (now heads) (now ends) (now links) (now dense) (now reverse) (now free)) c) s × Fits n (points (now x) (now y)) (now ring) moves (edgeOf edge) s) ⌝ }
+    ensures { λ r. ⌜ ((s : Store) → Holds n (poolOf (lent (now (heads .entry)) (now (ends .entry)) (now (links .entry)) (now (dense .entry)) (now (reverse .entry)) (now (free .entry))) c) s → Fits n (points (now (x .entry)) (now (y .entry))) (now (ring .entry)) moves (edgeOf edge) s
+        → Holds n (poolOf (lent (now (heads .exit)) (now (ends .exit)) (now (links .exit)) (now (dense .exit)) (now (reverse .exit)) (now (free .entry))) r) (sweepOver (points (now (x .entry)) (now (y .entry))) moves (edgeOf edge) (edges n (now (ring .entry))) s))
+        × Beyond (n * (n - 1)) (lent (now (heads .exit)) (now (ends .exit)) (now (links .exit)) (now (dense .exit)) (now (reverse .exit)) (now (free .entry))) (lent (now (heads .entry)) (now (ends .entry)) (now (links .entry)) (now (dense .entry)) (now (reverse .entry)) (now (free .entry))) ⌝ }
 {
     let mut k = c;
     let a = segment_of(x, y, edge);
@@ -93,10 +93,10 @@ pub fn sweeps(
     reverse: &mut [u16],
     free: &[u16],
 ) -> Counts
-    requires { ⌜ Lent n (now x) (now y) × IsRing n (now ring) × Board n (points (now x) (now y)) × (inserted .count ≤ 3) × AllProper n (source moves n (now ring) inserted) × ((s : Store) × Holds n (poolOf (now heads) (now ends) (now links) (now dense) (now reverse) (now free) c) s × FitAll n (points (now x) (now y)) (now ring) moves (source moves n (now ring) inserted) s) ⌝ }
-    ensures { λ r. ⌜ ((s : Store) → Holds n (poolOf (now (heads .entry)) (now (ends .entry)) (now (links .entry)) (now (dense .entry)) (now (reverse .entry)) (now (free .entry)) c) s → FitAll n (points (now (x .entry)) (now (y .entry))) (now (ring .entry)) moves (source moves n (now (ring .entry)) inserted) s
-        → Holds n (poolOf (now (heads .exit)) (now (ends .exit)) (now (links .exit)) (now (dense .exit)) (now (reverse .exit)) (now (free .entry)) r) (sweepsOver (points (now (x .entry)) (now (y .entry))) moves (edges n (now (ring .entry))) (source moves n (now (ring .entry)) inserted) s))
-        × Beyond (n * (n - 1)) (poolOf (now (heads .exit)) (now (ends .exit)) (now (links .exit)) (now (dense .exit)) (now (reverse .exit)) (now (free .entry)) r) (poolOf (now (heads .entry)) (now (ends .entry)) (now (links .entry)) (now (dense .entry)) (now (reverse .entry)) (now (free .entry)) c) ⌝ }
+    requires { ⌜ Lent n (now x) (now y) × IsRing n (now ring) × Board n (points (now x) (now y)) × (inserted .count ≤ 3) × AllProper n (source moves n (now ring) inserted) × ((s : Store) × Holds n (poolOf (lent (now heads) (now ends) (now links) (now dense) (now reverse) (now free)) c) s × FitAll n (points (now x) (now y)) (now ring) moves (source moves n (now ring) inserted) s) ⌝ }
+    ensures { λ r. ⌜ ((s : Store) → Holds n (poolOf (lent (now (heads .entry)) (now (ends .entry)) (now (links .entry)) (now (dense .entry)) (now (reverse .entry)) (now (free .entry))) c) s → FitAll n (points (now (x .entry)) (now (y .entry))) (now (ring .entry)) moves (source moves n (now (ring .entry)) inserted) s
+        → Holds n (poolOf (lent (now (heads .exit)) (now (ends .exit)) (now (links .exit)) (now (dense .exit)) (now (reverse .exit)) (now (free .entry))) r) (sweepsOver (points (now (x .entry)) (now (y .entry))) moves (edges n (now (ring .entry))) (source moves n (now (ring .entry)) inserted) s))
+        × Beyond (n * (n - 1)) (lent (now (heads .exit)) (now (ends .exit)) (now (links .exit)) (now (dense .exit)) (now (reverse .exit)) (now (free .entry))) (lent (now (heads .entry)) (now (ends .entry)) (now (links .entry)) (now (dense .entry)) (now (reverse .entry)) (now (free .entry))) ⌝ }
 {
     let m = source_len(moves, n, inserted);
     let mut k = c;
@@ -135,10 +135,10 @@ pub fn remove_edges(
     reverse: &mut [u16],
     free: &mut [u16],
 ) -> Counts
-    requires { ⌜ (removed .count ≤ 3) × AllProper n (fewOf removed) × ((s : Store) × Holds n (poolOf (now heads) (now ends) (now links) (now dense) (now reverse) (now free) c) s) ⌝ }
-    ensures { λ r. ⌜ ((s : Store) → Holds n (poolOf (now (heads .entry)) (now (ends .entry)) (now (links .entry)) (now (dense .entry)) (now (reverse .entry)) (now (free .entry)) c) s
-        → Holds n (poolOf (now (heads .exit)) (now (ends .entry)) (now (links .exit)) (now (dense .exit)) (now (reverse .exit)) (now (free .exit)) r) (removes (fewOf removed) s))
-        × Beyond (n * (n - 1)) (poolOf (now (heads .exit)) (now (ends .entry)) (now (links .exit)) (now (dense .exit)) (now (reverse .exit)) (now (free .exit)) r) (poolOf (now (heads .entry)) (now (ends .entry)) (now (links .entry)) (now (dense .entry)) (now (reverse .entry)) (now (free .entry)) c) ⌝ }
+    requires { ⌜ (removed .count ≤ 3) × AllProper n (fewOf removed) × ((s : Store) × Holds n (poolOf (lent (now heads) (now ends) (now links) (now dense) (now reverse) (now free)) c) s) ⌝ }
+    ensures { λ r. ⌜ ((s : Store) → Holds n (poolOf (lent (now (heads .entry)) (now (ends .entry)) (now (links .entry)) (now (dense .entry)) (now (reverse .entry)) (now (free .entry))) c) s
+        → Holds n (poolOf (lent (now (heads .exit)) (now (ends .entry)) (now (links .exit)) (now (dense .exit)) (now (reverse .exit)) (now (free .exit))) r) (removes (fewOf removed) s))
+        × Beyond (n * (n - 1)) (lent (now (heads .exit)) (now (ends .entry)) (now (links .exit)) (now (dense .exit)) (now (reverse .exit)) (now (free .exit))) (lent (now (heads .entry)) (now (ends .entry)) (now (links .entry)) (now (dense .entry)) (now (reverse .entry)) (now (free .entry))) ⌝ }
 {
     let m = removed.count as usize;
     let mut k = c;

@@ -60,10 +60,10 @@ fn from_order(
     reverse: &mut [u16],
     free: &mut [u16],
 ) -> Resolved
-    requires { ⌜ Lent n (now x) (now y) × (refusal n (points (now x) (now y)) false (upFrom 0 n) ≡ 0) × (length (now ring) ≡ n) × (length (now index) ≡ n) × ((c : Counts) → Sized n (poolOf (now heads) (now ends) (now links) (now dense) (now reverse) (now free) c)) ⌝ }
+    requires { ⌜ Lent n (now x) (now y) × (refusal n (points (now x) (now y)) false (upFrom 0 n) ≡ 0) × (length (now ring) ≡ n) × (length (now index) ≡ n) × Room n (lent (now heads) (now ends) (now links) (now dense) (now reverse) (now free)) ⌝ }
     ensures { λ k. ⌜ Counted n (points (now (x .entry)) (now (y .entry))) (upFrom 0 n) (now (picks .entry)) (k .moves) (k .cross) (k .left)
-        × ((c : Counts) → Ended n (points (now (x .entry)) (now (y .entry))) (upFrom 0 n) (now (picks .entry)) (now (ring .exit)) (now (index .exit)) (poolOf (now (heads .exit)) (now (ends .exit)) (now (links .exit)) (now (dense .exit)) (now (reverse .exit)) (now (free .exit)) c))
-        × ((c : Counts) → Beyond (n * (n - 1)) (poolOf (now (heads .exit)) (now (ends .exit)) (now (links .exit)) (now (dense .exit)) (now (reverse .exit)) (now (free .exit)) c) (poolOf (now (heads .entry)) (now (ends .entry)) (now (links .entry)) (now (dense .entry)) (now (reverse .entry)) (now (free .entry)) c)) ⌝ }
+        × Ended n (points (now (x .entry)) (now (y .entry))) (upFrom 0 n) (now (picks .entry)) (now (ring .exit)) (now (index .exit)) (lent (now (heads .exit)) (now (ends .exit)) (now (links .exit)) (now (dense .exit)) (now (reverse .exit)) (now (free .exit)))
+        × Beyond (n * (n - 1)) (lent (now (heads .exit)) (now (ends .exit)) (now (links .exit)) (now (dense .exit)) (now (reverse .exit)) (now (free .exit))) (lent (now (heads .entry)) (now (ends .entry)) (now (links .entry)) (now (dense .entry)) (now (reverse .entry)) (now (free .entry))) ⌝ }
 {
     identity(ring, index);
     resolve(
@@ -97,10 +97,10 @@ fn from_ring(
     reverse: &mut [u16],
     free: &mut [u16],
 ) -> Resolved
-    requires { ⌜ Lent n (now x) (now y) × (refusal n (points (now x) (now y)) false (now ring) ≡ 0) × (length (now index) ≡ n) × ((c : Counts) → Sized n (poolOf (now heads) (now ends) (now links) (now dense) (now reverse) (now free) c)) ⌝ }
+    requires { ⌜ Lent n (now x) (now y) × (refusal n (points (now x) (now y)) false (now ring) ≡ 0) × (length (now index) ≡ n) × Room n (lent (now heads) (now ends) (now links) (now dense) (now reverse) (now free)) ⌝ }
     ensures { λ k. ⌜ Counted n (points (now (x .entry)) (now (y .entry))) (now (ring .entry)) (now (picks .entry)) (k .moves) (k .cross) (k .left)
-        × ((c : Counts) → Ended n (points (now (x .entry)) (now (y .entry))) (now (ring .entry)) (now (picks .entry)) (now (ring .exit)) (now (index .exit)) (poolOf (now (heads .exit)) (now (ends .exit)) (now (links .exit)) (now (dense .exit)) (now (reverse .exit)) (now (free .exit)) c))
-        × ((c : Counts) → Beyond (n * (n - 1)) (poolOf (now (heads .exit)) (now (ends .exit)) (now (links .exit)) (now (dense .exit)) (now (reverse .exit)) (now (free .exit)) c) (poolOf (now (heads .entry)) (now (ends .entry)) (now (links .entry)) (now (dense .entry)) (now (reverse .entry)) (now (free .entry)) c)) ⌝ }
+        × Ended n (points (now (x .entry)) (now (y .entry))) (now (ring .entry)) (now (picks .entry)) (now (ring .exit)) (now (index .exit)) (lent (now (heads .exit)) (now (ends .exit)) (now (links .exit)) (now (dense .exit)) (now (reverse .exit)) (now (free .exit)))
+        × Beyond (n * (n - 1)) (lent (now (heads .exit)) (now (ends .exit)) (now (links .exit)) (now (dense .exit)) (now (reverse .exit)) (now (free .exit))) (lent (now (heads .entry)) (now (ends .entry)) (now (links .entry)) (now (dense .entry)) (now (reverse .entry)) (now (free .entry))) ⌝ }
 {
     rebuild_index(ring, index);
     resolve(

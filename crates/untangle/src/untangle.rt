@@ -33,10 +33,10 @@ pub fn untangle(
     reverse: &mut [u16],
     free: &mut [u16],
 ) -> Counts
-    requires { ⌜ Lent n (now x) (now y) × ((r cs : List ℕ) × (pick : ℕ) × Running n (points (now x) (now y)) r cs (now ring) (now index) (poolOf (now heads) (now ends) (now links) (now dense) (now reverse) (now free) c) × Picked n (points (now x) (now y)) r cs pick (edgeOf (isect .min)) (edgeOf (isect .max))) ⌝ }
-    ensures { λ k. ⌜ ((r cs : List ℕ) (pick : ℕ) → Running n (points (now (x .entry)) (now (y .entry))) r cs (now (ring .entry)) (now (index .entry)) (poolOf (now (heads .entry)) (now (ends .entry)) (now (links .entry)) (now (dense .entry)) (now (reverse .entry)) (now (free .entry)) c) → Picked n (points (now (x .entry)) (now (y .entry))) r cs pick (edgeOf (isect .min)) (edgeOf (isect .max))
-        → Running n (points (now (x .entry)) (now (y .entry))) r (cs ++ pick ∷ []) (now (ring .exit)) (now (index .exit)) (poolOf (now (heads .exit)) (now (ends .exit)) (now (links .exit)) (now (dense .exit)) (now (reverse .exit)) (now (free .exit)) k))
-        × Beyond (n * (n - 1)) (poolOf (now (heads .exit)) (now (ends .exit)) (now (links .exit)) (now (dense .exit)) (now (reverse .exit)) (now (free .exit)) k) (poolOf (now (heads .entry)) (now (ends .entry)) (now (links .entry)) (now (dense .entry)) (now (reverse .entry)) (now (free .entry)) c) ⌝ }
+    requires { ⌜ Lent n (now x) (now y) × ((r cs : List ℕ) × (pick : ℕ) × Running n (points (now x) (now y)) r cs (now ring) (now index) (poolOf (lent (now heads) (now ends) (now links) (now dense) (now reverse) (now free)) c) × Picked n (points (now x) (now y)) r cs pick (edgeOf (isect .min)) (edgeOf (isect .max))) ⌝ }
+    ensures { λ k. ⌜ ((r cs : List ℕ) (pick : ℕ) → Running n (points (now (x .entry)) (now (y .entry))) r cs (now (ring .entry)) (now (index .entry)) (poolOf (lent (now (heads .entry)) (now (ends .entry)) (now (links .entry)) (now (dense .entry)) (now (reverse .entry)) (now (free .entry))) c) → Picked n (points (now (x .entry)) (now (y .entry))) r cs pick (edgeOf (isect .min)) (edgeOf (isect .max))
+        → Running n (points (now (x .entry)) (now (y .entry))) r (cs ++ pick ∷ []) (now (ring .exit)) (now (index .exit)) (poolOf (lent (now (heads .exit)) (now (ends .exit)) (now (links .exit)) (now (dense .exit)) (now (reverse .exit)) (now (free .exit))) k))
+        × Beyond (n * (n - 1)) (lent (now (heads .exit)) (now (ends .exit)) (now (links .exit)) (now (dense .exit)) (now (reverse .exit)) (now (free .exit))) (lent (now (heads .entry)) (now (ends .entry)) (now (links .entry)) (now (dense .entry)) (now (reverse .entry)) (now (free .entry))) ⌝ }
 {
     let min = isect.min;
     let max = isect.max;

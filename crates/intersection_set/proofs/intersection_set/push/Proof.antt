@@ -4,7 +4,7 @@ use mathlib.Core.Path.{_∙_, subst⁻¹}
 use denote.Ref.{now}
 use Rattle.index_edge.specs.Edge.{Edge}
 use Rattle.index_edge.specs.Number.{edgeOf}
-use Rattle.intersection_set.specs.Pool.{Pool, poolOf}
+use Rattle.intersection_set.specs.Pool.{Pool, lent, poolOf}
 use Rattle.intersection_set.specs.declared.utils.Taken.{Taken}
 use Rattle.intersection_set.proofs.Words.{in-ends, in-nexts}
 use Rattle.intersection_set.proofs.Lengths.{slot-lt, take-ok, append-ok, edges-ok, links-ok, head-ok-1, head-ok-2, old-ok, old-ok-2, push-steps}
@@ -16,7 +16,7 @@ use Rattle.intersection_set.proofs.intersection_set.push.Tie as tie
 abbrev pool : tie.Start → Pool
 pool c =
     let a = c .args in
-    poolOf (now (a .heads)) (now (a .ends)) (now (a .links)) (now (a .dense)) (now (a .reverse)) (now (a .free)) (a .c)
+    poolOf (lent (now (a .heads)) (now (a .ends)) (now (a .links)) (now (a .dense)) (now (a .reverse)) (now (a .free))) (a .c)
 
 -- the edges to record
 abbrev e0 : tie.Start → Edge

@@ -1,9 +1,10 @@
 -- `push_if` meets its contract: where it pushes, buffers that held a store hold the store after the push.
+use Prim.Native.Nat.{_-_, _*_}
 use denote.Ref.{now}
 use Rattle.index_edge.specs.Edge.{Edge}
 use Rattle.index_edge.specs.Number.{edgeOf}
-use Rattle.intersection_set.specs.Pool.{Pool, poolOf}
-use Rattle.intersection_set.proofs.PastTheEnd.{beyond-self}
+use Rattle.intersection_set.specs.Pool.{Pool, lent, poolOf}
+use Rattle.intersection_set.proofs.PastTheEnd.{beyond-self, beyond-words}
 use Rattle.intersection_set.proofs.Pushing.{push-allowed, push-holds, push-beyond, no-push-holds}
 use borrow.Author.Needs.{needs}
 use Rattle.intersection_set.proofs.intersection_set.push_if.Statement.{statement}
@@ -13,7 +14,7 @@ use Rattle.intersection_set.proofs.intersection_set.push_if.Tie as tie
 abbrev pool : tie.Start → Pool
 pool c =
     let a = c .args in
-    poolOf (now (a .heads)) (now (a .ends)) (now (a .links)) (now (a .dense)) (now (a .reverse)) (now (a .free)) (a .c)
+    poolOf (lent (now (a .heads)) (now (a .ends)) (now (a .links)) (now (a .dense)) (now (a .reverse)) (now (a .free))) (a .c)
 
 abbrev e : tie.Start → Edge
 e c = edgeOf (c .args .a)
@@ -52,13 +53,13 @@ returns c = let b = c .before .before .before .before .before .before .before .b
     let ef = c .before .before .before .before .before .before .before .before .before .before .before .before .before .before .before .before .new .ensures .1 in
     let m = b .pre t in (
       λ s h may. push-holds n (pool b) s h (e b) (f b) ee ef (may t) (c .before .before .before .before .before .before .before .before .before .before .push .ensures) t,
-      push-beyond n (pool b) (m .0) (m .1) (e b) (f b) ee ef (m .2) (c .before .before .before .before .before .before .before .before .before .before .push .ensures),
+      beyond-words (n * (n - 1)) _ _ (push-beyond n (pool b) (m .0) (m .1) (e b) (f b) ee ef (m .2) (c .before .before .before .before .before .before .before .before .before .before .push .ensures)),
     )
 
 returns-2 : tie.Need-returns-2
 returns-2 c = let b = c .before .before .before .before .before .before .before in (
       λ s h may. no-push-holds (b .args .n) (pool b) s h (e b) (f b) (c .if1 .left),
-      beyond-self _ (pool b),
+      beyond-self _ _,
     )
 
 pub push-if-spec : {M : Type 1} → statement M

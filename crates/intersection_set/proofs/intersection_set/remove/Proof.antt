@@ -2,7 +2,7 @@
 use mathlib.Core.Path.{sym, _∙_}
 use denote.Ref.{now}
 use Rattle.index_edge.specs.Number.{edgeOf}
-use Rattle.intersection_set.specs.Pool.{Pool, poolOf}
+use Rattle.intersection_set.specs.Pool.{Pool, lent, poolOf}
 use Rattle.intersection_set.proofs.Words.{in-ends, in-nexts, next0-reads, prev0-reads, next1-reads, prev1-reads}
 use Rattle.intersection_set.proofs.Lengths.{ReadAt, unlink-ok, unlink-ok-2, remove-steps}
 use borrow.Author.Needs.{needs}
@@ -13,7 +13,7 @@ use Rattle.intersection_set.proofs.intersection_set.remove.Tie as tie
 abbrev pool : tie.Start → Pool
 pool c =
     let a = c .args in
-    poolOf (now (a .heads)) (now (a .ends)) (now (a .links)) (now (a .dense)) (now (a .reverse)) (now (a .free)) (a .c)
+    poolOf (lent (now (a .heads)) (now (a .ends)) (now (a .links)) (now (a .dense)) (now (a .reverse)) (now (a .free))) (a .c)
 
 -- what is read of the record
 read : (c : tie.After-low3) → let b = c .before .before .before .before .before .before .before .before .before .before .before .before .before .before in ReadAt (pool b) (b .args .s .0) (edgeOf (c .before .before .before .before .before .before .edge0-at .result)) (edgeOf (c .before .before .before .before .before .edge1-at .result)) (c .before .before .before .low0 .result) (c .before .before .low1 .result) (c .before .low2 .result) (c .low3 .result)

@@ -1,6 +1,6 @@
 -- `remove_all` meets its contract: each turn takes out the newest record that is left, so that what remains to be done gives the same
 -- pool, and fewer records live.
-use Prim.Native.Nat.{ℕ}
+use Prim.Native.Nat.{ℕ, _-_, _*_}
 use mathlib.Core.Path.{_≡_, refl, sym, ap, _∙_, subst⁻¹}
 use mathlib.Core.Logic.{_≢_}
 use native.Mathlib.Omega.{arith}
@@ -10,18 +10,19 @@ use denote.Ref.{now}
 use Rattle.algebra.specs.Cases.{not-true, not-false}
 use Rattle.index_edge.specs.Number.{edgeOf}
 use Rattle.intersection_set.specs.Lists.{none}
-use Rattle.intersection_set.specs.Pool.{Pool, poolOf, headAt, poolRemove, poolRemoveAll}
+use Rattle.intersection_set.specs.Pool.{Pool, lent, poolOf, headAt, poolRemove, poolRemoveAll}
 use Rattle.intersection_set.specs.Within.{RemoveOk, Drained}
 use Rattle.intersection_set.proofs.Words.{same-links}
 use Rattle.intersection_set.proofs.Lengths.{SameSize, same-self, same-trans, sizes-remove, live-remove, drained-next, all-none, all-some}
+use Rattle.intersection_set.proofs.PastTheEnd.{beyond-words}
 use Rattle.intersection_set.proofs.Removing.{drained, head-there, removed-holds, removed-beyond}
 use Rattle.intersection_set.proofs.intersection_set.remove_all.Statement.{statement}
 use Rattle.intersection_set.proofs.intersection_set.remove_all.Tie as tie
 
 abbrev Inv-loop : tie.InvT-loop
 Inv-loop n e heads₀ ends links₀ dense₀ reverse₀ free₀ k₀ newest₀ heads links dense reverse free k newest =
-    let p = poolOf heads ends links dense reverse free k in
-    let p₀ = poolOf heads₀ ends links₀ dense₀ reverse₀ free₀ k₀ in
+    let p = poolOf (lent heads ends links dense reverse free) k in
+    let p₀ = poolOf (lent heads₀ ends links₀ dense₀ reverse₀ free₀) k₀ in
     (newest .0 ≡ headAt n (edgeOf e) heads)
     × Drained n (edgeOf e) p
     × (poolRemoveAll n (edgeOf e) (k .live) p ≡ poolRemoveAll n (edgeOf e) (k₀ .live) p₀)
@@ -34,19 +35,19 @@ abbrev μ-loop : tie.MeasureT-loop
 abbrev start : tie.Start Inv-loop μ-loop → Pool
 start c =
     let a = c .args in
-    poolOf (now (a .heads)) (now (a .ends)) (now (a .links)) (now (a .dense)) (now (a .reverse)) (now (a .free)) (a .c)
+    poolOf (lent (now (a .heads)) (now (a .ends)) (now (a .links)) (now (a .dense)) (now (a .reverse)) (now (a .free))) (a .c)
 
 abbrev here : tie.At-loop Inv-loop μ-loop → Pool
 here c =
     let l = c .loop in
     let a = c .before .before .before .before .before .before .before .before .before .args in
-    poolOf (l .heads) (now (a .ends)) (l .links) (l .dense) (l .reverse) (l .free) (l .k)
+    poolOf (lent (l .heads) (now (a .ends)) (l .links) (l .dense) (l .reverse) (l .free)) (l .k)
 
 abbrev then : tie.After-remove Inv-loop μ-loop → Pool
 then c =
     let l = c .remove .last in
     let a = c .before .before .before .before .before .before .before .before .before .before .before .before .before .before .before .before .before .args in
-    poolOf (l .1 .1 .1 .0) (now (a .ends)) (l .1 .1 .1 .1 .1 .0) (l .1 .1 .1 .1 .1 .1 .0) (l .1 .1 .1 .1 .1 .1 .1 .0) (l .1 .1 .1 .1 .1 .1 .1 .1 .0) (c .remove .result)
+    poolOf (lent (l .1 .1 .1 .0) (now (a .ends)) (l .1 .1 .1 .1 .1 .0) (l .1 .1 .1 .1 .1 .1 .0) (l .1 .1 .1 .1 .1 .1 .1 .0) (l .1 .1 .1 .1 .1 .1 .1 .1 .0)) (c .remove .result)
 
 -- the slot that goes is the head
 abbrev head : tie.At-loop Inv-loop μ-loop → ℕ
@@ -131,7 +132,7 @@ returns c =
     let z = eqb-true (c .before .before .loop .newest .0) none (sym (c .before .is-none .ensures) ∙ not-false (c .before .is-none .result) (c .if1 .left)) in
     let q = sym (all-none n e (c .before .before .loop .k .live) (here (c .before .before)) (sym (inv .0) ∙ z)) ∙ inv .2 in (
       λ s h. removed-holds n e (b .pre .0) (start b) s h q,
-      removed-beyond n e (b .pre .0) (start b) (b .pre .1 .0) (b .pre .1 .1) q,
+      beyond-words (n * (n - 1)) _ _ (removed-beyond n e (b .pre .0) (start b) (b .pre .1 .0) (b .pre .1 .1) q),
     )
 
 pub remove-all-spec : {M : Type 1} → statement M
