@@ -1,6 +1,6 @@
 // Records come and go: one edge against the ring, the start, and what a move removes and inserts.
 //
-// A pool's buffers are twelve lent slices. What they hold is a store of records (`Holds`), and nothing past n×(n-1) is written (`Beyond`).
+// A pool's buffers are six lent slices. What they hold is a store of records (`Holds`), and nothing past n×(n-1) is written (`Beyond`).
 ghost use mathlib.Core.Path.{_≡_};
 ghost use mathlib.Core.Bool.{Bool, true, false};
 ghost use Prim.Native.Nat.{ℕ, _-_, _*_, _≤_, _<_};
@@ -10,7 +10,7 @@ ghost use Rattle.index_edge.specs.Number.{edgeOf};
 ghost use Rattle.polygon.specs.Ring.{IsRing};
 ghost use Rattle.polygon.specs.Edges.{edges};
 ghost use Rattle.intersection_set.specs.Store.{Store, removes};
-ghost use Rattle.intersection_set.specs.Pool.{poolOf};
+ghost use Rattle.intersection_set.specs.Pool.{lent, poolOf};
 ghost use Rattle.intersection_set.specs.Within.{Proper};
 ghost use Rattle.intersection_set.specs.Holds.{Holds, Beyond};
 ghost use Rattle.machine.specs.Board.{Board};

@@ -5,7 +5,7 @@ ghost use Prim.Native.Nat.{ℕ, _-_, _*_};
 ghost use lib.ListN.{length};
 ghost use Rattle.geometry.specs.Lent.{points, Lent};
 ghost use Rattle.index_edge.specs.Number.{edgeOf};
-ghost use Rattle.intersection_set.specs.Pool.{poolOf};
+ghost use Rattle.intersection_set.specs.Pool.{lent, poolOf};
 ghost use Rattle.intersection_set.specs.Holds.{Beyond};
 ghost use Rattle.untangle.specs.Running.{Running, Picked};
 use super::change::inserted_edges;

@@ -6,10 +6,10 @@ use lib.ListN.{length, take}
 use borrow.Author.Needs.{needs}
 use Rattle.index_edge.specs.Number.{edgeOf}
 use Rattle.intersection_set.specs.Store.{Store, removes}
-use Rattle.intersection_set.specs.Pool.{poolOf}
+use Rattle.intersection_set.specs.Pool.{lent, poolOf}
 use Rattle.intersection_set.specs.Within.{Proper}
 use Rattle.intersection_set.specs.Holds.{Holds, Beyond}
-use Rattle.intersection_set.proofs.Lengths.{SameSize, same-self}
+use Rattle.intersection_set.proofs.Lengths.{AsLong, as-long-self}
 use Rattle.intersection_set.proofs.PastTheEnd.{beyond-self, beyond-then}
 use Rattle.sweeps.specs.Few.{fewOf}
 use Rattle.sweeps.proofs.Several.{few-length, next-removal, removes-of-all}
@@ -17,96 +17,76 @@ use Rattle.sweeps.proofs.sweep.remove_edges.Statement.{statement}
 use Rattle.sweeps.proofs.sweep.remove_edges.Tie as tie
 
 abbrev Inv-loop : tie.InvT-loop
-Inv-loop n removed heads₀ min0 max0 next0₀ prev0₀ min1 max1 next1₀ prev1₀ dense₀ reverse₀ free₀ m k₀ i₀ heads next0 prev0 next1 prev1 dense reverse free k i =
-    let p = poolOf heads min0 max0 next0 prev0 min1 max1 next1 prev1 dense reverse free k in
-    let p₀ = poolOf heads₀ min0 max0 next0₀ prev0₀ min1 max1 next1₀ prev1₀ dense₀ reverse₀ free₀ k₀ in
-    (i ≤ m) × SameSize p p₀
+Inv-loop n removed heads₀ ends links₀ dense₀ reverse₀ free₀ m k₀ i₀ heads links dense reverse free k i =
+    let b = lent heads ends links dense reverse free in
+    let p = poolOf b k in
+    let b₀ = lent heads₀ ends links₀ dense₀ reverse₀ free₀ in
+    let p₀ = poolOf b₀ k₀ in
+    (i ≤ m) × AsLong b b₀
     × ((s : Store) → Holds n p₀ s → Holds n p (removes (take i (fewOf removed)) s))
-    × Beyond (n * (n - 1)) p p₀
+    × Beyond (n * (n - 1)) b b₀
 
 abbrev μ-loop : tie.MeasureT-loop
-μ-loop n removed heads₀ min0 max0 next0₀ prev0₀ min1 max1 next1₀ prev1₀ dense₀ reverse₀ free₀ m k₀ i₀ heads next0 prev0 next1 prev1 dense reverse free k i = m - i
+μ-loop n removed heads₀ ends links₀ dense₀ reverse₀ free₀ m k₀ i₀ heads links dense reverse free k i = m - i
 
 cast-m : tie.Need-cast-m Inv-loop μ-loop
 cast-m c = search needs
 
 loop-holds : tie.Need-loop-holds Inv-loop μ-loop
-loop-holds c = (omega arith, same-self _, λ s h. h, beyond-self _ _)
+loop-holds c = (omega arith, as-long-self _, λ s h. h, beyond-self _ _)
 
 nth-requires : tie.Need-nth-requires Inv-loop μ-loop
-nth-requires c κs = (c .before .before .before .before .before .before .before .before .before .before .before .before .before .before .before .pre .0, c .loop-test .taken)
+nth-requires c κs = (c .before .before .before .before .before .before .before .before .before .pre .0, c .loop-test .taken)
 
-below : (c : tie.In-loop Inv-loop μ-loop) → c .before .loop .i < length (fewOf (c .before .before .before .before .before .before .before .before .before .before .before .before .before .before .before .args .removed))
-below c = omega (arith, c .loop-test .taken, few-length (c .before .before .before .before .before .before .before .before .before .before .before .before .before .before .before .args .removed) (c .before .before .before .before .before .before .before .before .before .before .before .before .before .before .before .pre .0))
+below : (c : tie.In-loop Inv-loop μ-loop) → c .before .loop .i < length (fewOf (c .before .before .before .before .before .before .before .before .before .args .removed))
+below c = omega (arith, c .loop-test .taken, few-length (c .before .before .before .before .before .before .before .before .before .args .removed) (c .before .before .before .before .before .before .before .before .before .pre .0))
 
 -- the store without the records of the edges before i
 abbrev so-far : tie.At-loop Inv-loop μ-loop → Store → Store
-so-far c s = removes (take (c .loop .i) (fewOf (c .before .before .before .before .before .before .before .before .before .before .before .before .before .before .args .removed))) s
+so-far c s = removes (take (c .loop .i) (fewOf (c .before .before .before .before .before .before .before .before .args .removed))) s
 
 remove-all-requires : tie.Need-remove-all-requires Inv-loop μ-loop
 remove-all-requires c κs =
-    let p = c .before .before .before .before .before .before .before .before .before .before .before .before .before .before .before .before .before .before .before .before .before .before .before .before .pre in
+    let p = c .before .before .before .before .before .before .before .before .before .before .before .before .before .before .before .pre in
     let q = p .2 in
-    (subst⁻¹ (Proper (c .before .before .before .before .before .before .before .before .before .before .before .before .before .before .before .before .before .before .before .before .before .before .before .before .args .n)) (c .before .before .before .before .before .before .before .before .nth .ensures) (p .1 (c .before .before .before .before .before .before .before .before .before .before .loop .i) (below (c .before .before .before .before .before .before .before .before .before))), (so-far (c .before .before .before .before .before .before .before .before .before .before) (q .0), c .before .before .before .before .before .before .before .before .before .before .loop .inv .2 (q .0) (q .1)))
+    (subst⁻¹ (Proper (c .before .before .before .before .before .before .before .before .before .before .before .before .before .before .before .args .n)) (c .before .before .before .before .before .nth .ensures) (p .1 (c .before .before .before .before .before .before .before .loop .i) (below (c .before .before .before .before .before .before))), (so-far (c .before .before .before .before .before .before .before) (q .0), c .before .before .before .before .before .before .before .loop .inv .2 (q .0) (q .1)))
 
 add-i : tie.Need-add-i Inv-loop μ-loop
-add-i c = omega (arith, c .before .before .before .before .before .before .before .before .before .before .before .before .before .before .before .before .before .before .before .before .before .before .before .before .before .before .loop-test .taken, c .before .before .before .before .before .before .before .before .before .before .before .before .before .before .before .before .before .before .before .before .before .before .before .before .before .before .before .before .before .before .before .before .before .before .before .before .before .before .before .before .before .pre .0)
+add-i c = omega (arith, c .before .before .before .before .before .before .before .before .before .before .before .before .before .before .before .before .before .loop-test .taken, c .before .before .before .before .before .before .before .before .before .before .before .before .before .before .before .before .before .before .before .before .before .before .before .before .before .before .pre .0)
 
 loop-less : tie.Need-loop-less Inv-loop μ-loop
-loop-less c = omega (arith, c .before .before .before .before .before .before .before .before .before .before .before .before .before .before .before .before .before .before .before .before .before .before .before .before .before .before .loop-test .taken)
+loop-less c = omega (arith, c .before .before .before .before .before .before .before .before .before .before .before .before .before .before .before .before .before .loop-test .taken)
 
 loop-again : tie.Need-loop-again Inv-loop μ-loop
 loop-again c =
-    let a = c .before .before .before .before .before .before .before .before .before .before .before .before .before .before .before .before .before .before .before .before .before .before .before .before .before .before .before .before .before .before .before .before .before .before .before .before .before .before .before .before .before .args in
-    let z = c .before .before .before .before .before .before .before .before .before .before .before .before .before .before .before .before .before .before .before .before .before .before .before .before .before .before .before .loop .inv .1 in
-    let d = c .before .before .before .before .before .before .before .before .before .before .before .before .before .before .before .before .remove-all .kept .1 .1 .1 in (
-      omega (arith, c .before .before .before .before .before .before .before .before .before .before .before .before .before .before .before .before .before .before .before .before .before .before .before .before .before .before .loop-test .taken),
-      record {
-        heads = d .0 ∙ z .heads;
-        min0 = z .min0;
-        max0 = z .max0;
-        next0 = d .1 .1 .1 .0 ∙ z .next0;
-        prev0 = d .1 .1 .1 .1 .0 ∙ z .prev0;
-        min1 = z .min1;
-        max1 = z .max1;
-        next1 = d .1 .1 .1 .1 .1 .1 .1 .0 ∙ z .next1;
-        prev1 = d .1 .1 .1 .1 .1 .1 .1 .1 .0 ∙ z .prev1;
-        dense = d .1 .1 .1 .1 .1 .1 .1 .1 .1 .0 ∙ z .dense;
-        reverse = d .1 .1 .1 .1 .1 .1 .1 .1 .1 .1 .0 ∙ z .reverse;
-        free = d .1 .1 .1 .1 .1 .1 .1 .1 .1 .1 .1 .0 ∙ z .free;
-      },
-      λ s h. subst (Holds (a .n) _) (next-removal (fewOf (a .removed)) (c .before .before .before .before .before .before .before .before .before .before .before .before .before .before .before .before .before .before .before .before .before .before .before .before .before .before .before .loop .i) s (below (c .before .before .before .before .before .before .before .before .before .before .before .before .before .before .before .before .before .before .before .before .before .before .before .before .before .before)) (c .before .before .before .before .before .before .before .before .before .before .before .before .before .before .before .before .before .before .before .before .before .before .before .before .before .nth .ensures)) (c .before .before .before .before .before .before .before .before .before .before .before .before .before .before .before .before .remove-all .ensures .0 (so-far (c .before .before .before .before .before .before .before .before .before .before .before .before .before .before .before .before .before .before .before .before .before .before .before .before .before .before .before) s) (c .before .before .before .before .before .before .before .before .before .before .before .before .before .before .before .before .before .before .before .before .before .before .before .before .before .before .before .loop .inv .2 s h)),
-      beyond-then (c .before .before .before .before .before .before .before .before .before .before .before .before .before .before .before .before .remove-all .ensures .1) (c .before .before .before .before .before .before .before .before .before .before .before .before .before .before .before .before .before .before .before .before .before .before .before .before .before .before .before .loop .inv .3),
+    let a = c .before .before .before .before .before .before .before .before .before .before .before .before .before .before .before .before .before .before .before .before .before .before .before .before .before .before .args in
+    let z = c .before .before .before .before .before .before .before .before .before .before .before .before .before .before .before .before .before .before .loop .inv .1 in
+    let d = c .before .before .before .before .before .before .before .before .before .before .remove-all .kept .1 .1 .1 in (
+      omega (arith, c .before .before .before .before .before .before .before .before .before .before .before .before .before .before .before .before .before .loop-test .taken),
+      record { heads = d .0 ∙ z .heads; ends = z .ends; links = d .1 .1 .0 ∙ z .links; dense = d .1 .1 .1 .0 ∙ z .dense; reverse = d .1 .1 .1 .1 .0 ∙ z .reverse; free = d .1 .1 .1 .1 .1 .0 ∙ z .free },
+      λ s h. subst (Holds (a .n) _) (next-removal (fewOf (a .removed)) (c .before .before .before .before .before .before .before .before .before .before .before .before .before .before .before .before .before .before .loop .i) s (below (c .before .before .before .before .before .before .before .before .before .before .before .before .before .before .before .before .before)) (c .before .before .before .before .before .before .before .before .before .before .before .before .before .before .before .before .nth .ensures)) (c .before .before .before .before .before .before .before .before .before .before .remove-all .ensures .0 (so-far (c .before .before .before .before .before .before .before .before .before .before .before .before .before .before .before .before .before .before) s) (c .before .before .before .before .before .before .before .before .before .before .before .before .before .before .before .before .before .before .loop .inv .2 s h)),
+      beyond-then (c .before .before .before .before .before .before .before .before .before .before .remove-all .ensures .1) (c .before .before .before .before .before .before .before .before .before .before .before .before .before .before .before .before .before .before .loop .inv .3),
     )
 
 same-length : tie.Need-same-length Inv-loop μ-loop
 same-length c = c .before .loop .inv .1 .heads
 
 same-length-2 : tie.Need-same-length-2 Inv-loop μ-loop
-same-length-2 c = c .before .loop .inv .1 .next0
+same-length-2 c = c .before .loop .inv .1 .links
 
 same-length-3 : tie.Need-same-length-3 Inv-loop μ-loop
-same-length-3 c = c .before .loop .inv .1 .prev0
+same-length-3 c = c .before .loop .inv .1 .dense
 
 same-length-4 : tie.Need-same-length-4 Inv-loop μ-loop
-same-length-4 c = c .before .loop .inv .1 .next1
+same-length-4 c = c .before .loop .inv .1 .reverse
 
 same-length-5 : tie.Need-same-length-5 Inv-loop μ-loop
-same-length-5 c = c .before .loop .inv .1 .prev1
-
-same-length-6 : tie.Need-same-length-6 Inv-loop μ-loop
-same-length-6 c = c .before .loop .inv .1 .dense
-
-same-length-7 : tie.Need-same-length-7 Inv-loop μ-loop
-same-length-7 c = c .before .loop .inv .1 .reverse
-
-same-length-8 : tie.Need-same-length-8 Inv-loop μ-loop
-same-length-8 c = c .before .loop .inv .1 .free
+same-length-5 c = c .before .loop .inv .1 .free
 
 returns : tie.Need-returns Inv-loop μ-loop
 returns c =
-    let a = c .before .before .before .before .before .before .before .before .before .before .before .before .before .before .before .args in
-    let e : c .before .loop .i ≡ length (fewOf (a .removed)) = omega (arith, c .loop-test .left, c .before .loop .inv .0, few-length (a .removed) (c .before .before .before .before .before .before .before .before .before .before .before .before .before .before .before .pre .0)) in
+    let a = c .before .before .before .before .before .before .before .before .before .args in
+    let e : c .before .loop .i ≡ length (fewOf (a .removed)) = omega (arith, c .loop-test .left, c .before .loop .inv .0, few-length (a .removed) (c .before .before .before .before .before .before .before .before .before .pre .0)) in
     (λ s h. subst (Holds (a .n) _) (removes-of-all (fewOf (a .removed)) (c .before .loop .i) s e) (c .before .loop .inv .2 s h), c .before .loop .inv .3)
 
 pub remove-edges-spec : {M : Type 1} → statement M
@@ -127,7 +107,4 @@ remove-edges-spec =
     same-length-3
     same-length-4
     same-length-5
-    same-length-6
-    same-length-7
-    same-length-8
     returns)
