@@ -7,7 +7,7 @@ use lib.Dec.{eqb}
 use lib.ListN.{length}
 use Rattle.geometry.specs.Plane.{Point}
 use Rattle.polygon.specs.Ring.{indexOf}
-use Rattle.intersection_set.specs.Pool.{Pool}
+use Rattle.intersection_set.specs.Pool.{Buffers}
 use Rattle.intersection_set.specs.Holds.{Shows}
 use Rattle.machine.specs.Machine.{start, after, place}
 use Rattle.machine.specs.Answer.{finish}
@@ -24,7 +24,7 @@ abbrev pub lastRing : ℕ → (ℕ → Point) → List ℕ → List ℕ → List
 lastRing n pt r cs = let t = stateAfter n pt r cs in cond (eqb (length (t .store .dense)) 0) (finish n pt (t .ring)) (t .ring)
 
 -- The buffers then: that ring, the index that inverts it, and the machine's records.
-pub record Ended (n : ℕ) (pt : ℕ → Point) (r cs ring index : List ℕ) (p : Pool) : Type 0 where
+pub record Ended (n : ℕ) (pt : ℕ → Point) (r cs ring index : List ℕ) (b : Buffers) : Type 0 where
   pub same-ring : ring ≡ lastRing n pt r cs
   pub same-index : index ≡ indexOf n ring
-  pub shows : Shows n p (stateAfter n pt r cs .store)
+  pub shows : Shows n b (stateAfter n pt r cs .store)

@@ -11,9 +11,9 @@ use lib.ListN.{length, getD, take}
 use denote.Ref.{now}
 use Rattle.algebra.specs.Cases.{and-left, and-right}
 use Rattle.geometry.specs.Lent.{points}
-use Rattle.intersection_set.specs.Pool.{poolOf}
+use Rattle.intersection_set.specs.Pool.{lent, poolOf}
 use Rattle.intersection_set.specs.Holds.{Beyond}
-use Rattle.intersection_set.proofs.Lengths.{SameSize, same-self}
+use Rattle.intersection_set.proofs.Lengths.{AsLong, as-long-self}
 use Rattle.intersection_set.proofs.PastTheEnd.{beyond-self, beyond-then}
 use Rattle.machine.specs.Machine.{after, place}
 use Rattle.untangle.specs.Running.{Running}
@@ -22,28 +22,30 @@ use Rattle.resolve.proofs.run.run.Statement.{statement}
 use Rattle.resolve.proofs.run.run.Tie as tie
 
 abbrev Inv-loop : tie.InvT-loop
-Inv-loop n x y picks ring₀ index₀ heads₀ min0₀ max0₀ next0₀ prev0₀ min1₀ max1₀ next1₀ prev1₀ dense₀ reverse₀ free₀ m k₀ i₀ more₀ ring index heads min0 max0 next0 prev0 min1 max1 next1 prev1 dense reverse free k i more =
-    let p = poolOf heads min0 max0 next0 prev0 min1 max1 next1 prev1 dense reverse free k in
-    let p₀ = poolOf heads₀ min0₀ max0₀ next0₀ prev0₀ min1₀ max1₀ next1₀ prev1₀ dense₀ reverse₀ free₀ k₀ in
-    (i ≤ length picks) × SameSize p p₀ × (length ring ≡ length ring₀) × (length index ≡ length index₀)
+Inv-loop n x y picks ring₀ index₀ heads₀ ends₀ links₀ dense₀ reverse₀ free₀ m k₀ i₀ more₀ ring index heads ends links dense reverse free k i more =
+    let b = lent heads ends links dense reverse free in
+    let p = poolOf b k in
+    let b₀ = lent heads₀ ends₀ links₀ dense₀ reverse₀ free₀ in
+    let p₀ = poolOf b₀ k₀ in
+    (i ≤ length picks) × AsLong b b₀ × (length ring ≡ length ring₀) × (length index ≡ length index₀)
     × ((r : List ℕ) → Running n (points x y) r [] ring₀ index₀ p₀ → Running n (points x y) r (take i picks) ring index p × (length (after n (points x y) place (take i picks) r .log) ≡ i))
-    × Beyond (n * (n - 1)) p p₀
+    × Beyond (n * (n - 1)) b b₀
     × (more ≡ (ltb i (length picks) && ltb 0 (k .live)))
 
 abbrev μ-loop : tie.MeasureT-loop
-μ-loop n x y picks ring₀ index₀ heads₀ min0₀ max0₀ next0₀ prev0₀ min1₀ max1₀ next1₀ prev1₀ dense₀ reverse₀ free₀ m k₀ i₀ more₀ ring index heads min0 max0 next0 prev0 min1 max1 next1 prev1 dense reverse free k i more = length picks - i
+μ-loop n x y picks ring₀ index₀ heads₀ ends₀ links₀ dense₀ reverse₀ free₀ m k₀ i₀ more₀ ring index heads ends links dense reverse free k i more = length picks - i
 
 goes-on-requires : tie.Need-goes-on-requires Inv-loop μ-loop
 goes-on-requires c κs = search needs
 
 loop-holds : tie.Need-loop-holds Inv-loop μ-loop
-loop-holds c = (omega arith, same-self _, refl, refl, λ r h. (h, refl), beyond-self _ _, c .goes-on .ensures)
+loop-holds c = (omega arith, as-long-self _, refl, refl, λ r h. (h, refl), beyond-self _ _, c .goes-on .ensures)
 
 -- a pick and a record are left
-left : (c : tie.In-loop Inv-loop μ-loop) → (c .before .loop .i < length (now (c .before .before .before .before .before .before .before .before .before .before .before .before .before .before .before .before .before .before .args .picks))) × (0 < c .before .loop .k .live)
+left : (c : tie.In-loop Inv-loop μ-loop) → (c .before .loop .i < length (now (c .before .before .before .before .before .before .before .before .before .before .before .before .args .picks))) × (0 < c .before .loop .k .live)
 left c =
-    let t : (ltb (c .before .loop .i) (length (now (c .before .before .before .before .before .before .before .before .before .before .before .before .before .before .before .before .before .before .args .picks))) && ltb 0 (c .before .loop .k .live)) ≡ true = sym (c .before .loop .inv .6) ∙ c .loop-test .taken in
-    (ltb-true (c .before .loop .i) (length (now (c .before .before .before .before .before .before .before .before .before .before .before .before .before .before .before .before .before .before .args .picks))) (and-left (ltb (c .before .loop .i) (length (now (c .before .before .before .before .before .before .before .before .before .before .before .before .before .before .before .before .before .before .args .picks)))) (ltb 0 (c .before .loop .k .live)) t), ltb-true 0 (c .before .loop .k .live) (and-right (ltb (c .before .loop .i) (length (now (c .before .before .before .before .before .before .before .before .before .before .before .before .before .before .before .before .before .before .args .picks)))) (ltb 0 (c .before .loop .k .live)) t))
+    let t : (ltb (c .before .loop .i) (length (now (c .before .before .before .before .before .before .before .before .before .before .before .before .args .picks))) && ltb 0 (c .before .loop .k .live)) ≡ true = sym (c .before .loop .inv .6) ∙ c .loop-test .taken in
+    (ltb-true (c .before .loop .i) (length (now (c .before .before .before .before .before .before .before .before .before .before .before .before .args .picks))) (and-left (ltb (c .before .loop .i) (length (now (c .before .before .before .before .before .before .before .before .before .before .before .before .args .picks)))) (ltb 0 (c .before .loop .k .live)) t), ltb-true 0 (c .before .loop .k .live) (and-right (ltb (c .before .loop .i) (length (now (c .before .before .before .before .before .before .before .before .before .before .before .before .args .picks)))) (ltb 0 (c .before .loop .k .live)) t))
 
 -- no slice is longer than the memory
 room : (c : tie.Start Inv-loop μ-loop) → length (now (c .args .picks)) < 9223372036854775808
@@ -57,61 +59,48 @@ shared-slice-read-random c = left (c .before) .0
 
 random-requires : tie.Need-random-requires Inv-loop μ-loop
 random-requires c κs =
-    let s = c .before .before .before .before .before .before .before .before .before .before .before .before .before .before .before .before .before .before .before .before .before .before .before .before in
+    let s = c .before .before .before .before .before .before .before .before .before .before .before .before .before .before .before in
     let q = s .pre .1 in
-    let run = c .before .before .before .before .before .before .before .loop .inv .4 (q .0) (q .1) .0 in
-    (left (c .before .before .before .before .before .before) .1, (s .args .n, _, _, run .holds, refl, refl, refl))
+    let run = c .before .before .before .before .loop .inv .4 (q .0) (q .1) .0 in
+    (left (c .before .before .before) .1, (s .args .n, _, _, run .holds, refl, refl, refl))
 
 untangle-requires : tie.Need-untangle-requires Inv-loop μ-loop
 untangle-requires c κs =
-    let s = c .before .before .before .before .before .before .before .before .before .before .before .before .before .before .before .before .before .before .before .before .before .before .before .before .before .before .before .before .before .before .before .before .before .before .before .before .before .before .before in
+    let s = c .before .before .before .before .before .before .before .before .before .before .before .before .before .before .before .before .before .before .before .before .before .before .before .before in
     let q = s .pre .1 in
-    let run = c .before .before .before .before .before .before .before .before .before .before .before .before .before .before .before .before .before .before .before .before .before .before .loop .inv .4 (q .0) (q .1) .0 in
-    (s .pre .0, (q .0, take (c .before .before .before .before .before .before .before .before .before .before .before .before .before .before .before .before .before .before .before .before .before .before .loop .i) (now (s .args .picks)), getD (now (s .args .picks)) (c .before .before .before .before .before .before .before .before .before .before .before .before .before .before .before .before .before .before .before .before .before .before .loop .i) 0, run, picked run (left (c .before .before .before .before .before .before .before .before .before .before .before .before .before .before .before .before .before .before .before .before .before) .1) (c .before .before .before .before .before .before .before .before .before .before .before .before .before .before .random .ensures (s .args .n) _ _ (run .holds) refl refl refl)))
+    let run = c .before .before .before .before .before .before .before .before .before .before .before .before .before .loop .inv .4 (q .0) (q .1) .0 in
+    (s .pre .0, (q .0, take (c .before .before .before .before .before .before .before .before .before .before .before .before .before .loop .i) (now (s .args .picks)), getD (now (s .args .picks)) (c .before .before .before .before .before .before .before .before .before .before .before .before .before .loop .i) 0, run, picked run (left (c .before .before .before .before .before .before .before .before .before .before .before .before) .1) (c .before .before .before .before .before .before .before .before .random .ensures (s .args .n) _ _ (run .holds) refl refl refl)))
 
 add-i : tie.Need-add-i Inv-loop μ-loop
-add-i c = omega (arith, left (c .before .before .before .before .before .before .before .before .before .before .before .before .before .before .before .before .before .before .before .before .before .before .before .before .before .before .before .before .before .before .before .before .before .before .before .before .before .before .before .before .before .before .before .before .before .before .before .before .before .before) .0, room (c .before .before .before .before .before .before .before .before .before .before .before .before .before .before .before .before .before .before .before .before .before .before .before .before .before .before .before .before .before .before .before .before .before .before .before .before .before .before .before .before .before .before .before .before .before .before .before .before .before .before .before .before .before .before .before .before .before .before .before .before .before .before .before .before .before .before .before .before))
+add-i c = omega (arith, left (c .before .before .before .before .before .before .before .before .before .before .before .before .before .before .before .before .before .before .before .before .before .before .before .before .before .before .before .before .before) .0, room (c .before .before .before .before .before .before .before .before .before .before .before .before .before .before .before .before .before .before .before .before .before .before .before .before .before .before .before .before .before .before .before .before .before .before .before .before .before .before .before .before .before))
 
 goes-on-requires-2 : tie.Need-goes-on-requires-2 Inv-loop μ-loop
 goes-on-requires-2 c κs = search needs
 
 loop-less : tie.Need-loop-less Inv-loop μ-loop
-loop-less c = omega (arith, left (c .before .before .before .before .before .before .before .before .before .before .before .before .before .before .before .before .before .before .before .before .before .before .before .before .before .before .before .before .before .before .before .before .before .before .before .before .before .before .before .before .before .before .before .before .before .before .before .before .before .before .before) .0)
+loop-less c = omega (arith, left (c .before .before .before .before .before .before .before .before .before .before .before .before .before .before .before .before .before .before .before .before .before .before .before .before .before .before .before .before .before .before) .0)
 
 loop-again : tie.Need-loop-again Inv-loop μ-loop
 loop-again c =
-    let s = c .before .before .before .before .before .before .before .before .before .before .before .before .before .before .before .before .before .before .before .before .before .before .before .before .before .before .before .before .before .before .before .before .before .before .before .before .before .before .before .before .before .before .before .before .before .before .before .before .before .before .before .before .before .before .before .before .before .before .before .before .before .before .before .before .before .before .before .before .before in
+    let s = c .before .before .before .before .before .before .before .before .before .before .before .before .before .before .before .before .before .before .before .before .before .before .before .before .before .before .before .before .before .before .before .before .before .before .before .before .before .before .before .before .before .before in
     let n = s .args .n in
     let pt = points (now (s .args .x)) (now (s .args .y)) in
     let cs = now (s .args .picks) in
-    let i = c .before .before .before .before .before .before .before .before .before .before .before .before .before .before .before .before .before .before .before .before .before .before .before .before .before .before .before .before .before .before .before .before .before .before .before .before .before .before .before .before .before .before .before .before .before .before .before .before .before .before .before .before .loop .i in
-    let l = left (c .before .before .before .before .before .before .before .before .before .before .before .before .before .before .before .before .before .before .before .before .before .before .before .before .before .before .before .before .before .before .before .before .before .before .before .before .before .before .before .before .before .before .before .before .before .before .before .before .before .before .before) in
+    let i = c .before .before .before .before .before .before .before .before .before .before .before .before .before .before .before .before .before .before .before .before .before .before .before .before .before .before .before .before .before .before .before .loop .i in
+    let l = left (c .before .before .before .before .before .before .before .before .before .before .before .before .before .before .before .before .before .before .before .before .before .before .before .before .before .before .before .before .before .before) in
     let e = take-more cs i (l .0) in
-    let z = c .before .before .before .before .before .before .before .before .before .before .before .before .before .before .before .before .before .before .before .before .before .before .before .before .before .before .before .before .before .before .before .before .before .before .before .before .before .before .before .before .before .before .before .before .before .before .before .before .before .before .before .before .loop .inv .1 in
-    let d = c .before .before .before .before .before .before .before .before .before .before .before .before .before .before .before .before .before .before .before .before .before .before .before .before .before .before .before .before .before .untangle .kept .1 .1 .1 .1 .1 .1 .1 in (
+    let z = c .before .before .before .before .before .before .before .before .before .before .before .before .before .before .before .before .before .before .before .before .before .before .before .before .before .before .before .before .before .before .before .loop .inv .1 in
+    let d = c .before .before .before .before .before .before .before .before .before .before .before .before .before .before .before .before .before .untangle .kept .1 .1 .1 .1 .1 .1 .1 in (
       omega (arith, l .0),
-      record {
-        heads = d .0 ∙ z .heads;
-        min0 = d .1 .0 ∙ z .min0;
-        max0 = d .1 .1 .0 ∙ z .max0;
-        next0 = d .1 .1 .1 .0 ∙ z .next0;
-        prev0 = d .1 .1 .1 .1 .0 ∙ z .prev0;
-        min1 = d .1 .1 .1 .1 .1 .0 ∙ z .min1;
-        max1 = d .1 .1 .1 .1 .1 .1 .0 ∙ z .max1;
-        next1 = d .1 .1 .1 .1 .1 .1 .1 .0 ∙ z .next1;
-        prev1 = d .1 .1 .1 .1 .1 .1 .1 .1 .0 ∙ z .prev1;
-        dense = d .1 .1 .1 .1 .1 .1 .1 .1 .1 .0 ∙ z .dense;
-        reverse = d .1 .1 .1 .1 .1 .1 .1 .1 .1 .1 .0 ∙ z .reverse;
-        free = d .1 .1 .1 .1 .1 .1 .1 .1 .1 .1 .1 .0 ∙ z .free;
-      },
-      c .before .before .before .before .before .before .before .before .before .before .before .before .before .before .before .before .before .before .before .before .before .before .before .before .before .before .before .before .before .untangle .kept .1 .1 .1 .1 .0 ∙ c .before .before .before .before .before .before .before .before .before .before .before .before .before .before .before .before .before .before .before .before .before .before .before .before .before .before .before .before .before .before .before .before .before .before .before .before .before .before .before .before .before .before .before .before .before .before .before .before .before .before .before .before .loop .inv .2,
-      c .before .before .before .before .before .before .before .before .before .before .before .before .before .before .before .before .before .before .before .before .before .before .before .before .before .before .before .before .before .untangle .kept .1 .1 .1 .1 .1 .0 ∙ c .before .before .before .before .before .before .before .before .before .before .before .before .before .before .before .before .before .before .before .before .before .before .before .before .before .before .before .before .before .before .before .before .before .before .before .before .before .before .before .before .before .before .before .before .before .before .before .before .before .before .before .before .loop .inv .3,
+      record { heads = d .0 ∙ z .heads; ends = d .1 .0 ∙ z .ends; links = d .1 .1 .0 ∙ z .links; dense = d .1 .1 .1 .0 ∙ z .dense; reverse = d .1 .1 .1 .1 .0 ∙ z .reverse; free = d .1 .1 .1 .1 .1 .0 ∙ z .free },
+      c .before .before .before .before .before .before .before .before .before .before .before .before .before .before .before .before .before .untangle .kept .1 .1 .1 .1 .0 ∙ c .before .before .before .before .before .before .before .before .before .before .before .before .before .before .before .before .before .before .before .before .before .before .before .before .before .before .before .before .before .before .before .loop .inv .2,
+      c .before .before .before .before .before .before .before .before .before .before .before .before .before .before .before .before .before .untangle .kept .1 .1 .1 .1 .1 .0 ∙ c .before .before .before .before .before .before .before .before .before .before .before .before .before .before .before .before .before .before .before .before .before .before .before .before .before .before .before .before .before .before .before .loop .inv .3,
       λ r h.
-          let b = c .before .before .before .before .before .before .before .before .before .before .before .before .before .before .before .before .before .before .before .before .before .before .before .before .before .before .before .before .before .before .before .before .before .before .before .before .before .before .before .before .before .before .before .before .before .before .before .before .before .before .before .before .loop .inv .4 r h in (
-            running-more cs i (l .0) (c .before .before .before .before .before .before .before .before .before .before .before .before .before .before .before .before .before .before .before .before .before .before .before .before .before .before .before .before .before .untangle .ensures .0 r (take i cs) (getD cs i 0) (b .0) (picked (b .0) (l .1) (c .before .before .before .before .before .before .before .before .before .before .before .before .before .before .before .before .before .before .before .before .before .before .before .before .before .before .before .before .before .before .before .before .before .before .before .before .before .before .before .before .before .before .before .before .random .ensures n _ _ (b .0 .holds) refl refl refl))),
+          let b = c .before .before .before .before .before .before .before .before .before .before .before .before .before .before .before .before .before .before .before .before .before .before .before .before .before .before .before .before .before .before .before .loop .inv .4 r h in (
+            running-more cs i (l .0) (c .before .before .before .before .before .before .before .before .before .before .before .before .before .before .before .before .before .untangle .ensures .0 r (take i cs) (getD cs i 0) (b .0) (picked (b .0) (l .1) (c .before .before .before .before .before .before .before .before .before .before .before .before .before .before .before .before .before .before .before .before .before .before .before .before .before .before .random .ensures n _ _ (b .0 .holds) refl refl refl))),
             subst (λ (xs : List ℕ). length (after n pt place xs r .log) ≡ i + 1) e (one-more (b .0) (getD cs i 0) (l .1) (b .1)),
           ),
-      beyond-then (c .before .before .before .before .before .before .before .before .before .before .before .before .before .before .before .before .before .before .before .before .before .before .before .before .before .before .before .before .before .untangle .ensures .1) (c .before .before .before .before .before .before .before .before .before .before .before .before .before .before .before .before .before .before .before .before .before .before .before .before .before .before .before .before .before .before .before .before .before .before .before .before .before .before .before .before .before .before .before .before .before .before .before .before .before .before .before .before .loop .inv .5),
+      beyond-then (c .before .before .before .before .before .before .before .before .before .before .before .before .before .before .before .before .before .untangle .ensures .1) (c .before .before .before .before .before .before .before .before .before .before .before .before .before .before .before .before .before .before .before .before .before .before .before .before .before .before .before .before .before .before .before .loop .inv .5),
       c .goes-on2 .ensures,
     )
 
@@ -125,41 +114,23 @@ same-length-3 : tie.Need-same-length-3 Inv-loop μ-loop
 same-length-3 c = c .before .loop .inv .1 .heads
 
 same-length-4 : tie.Need-same-length-4 Inv-loop μ-loop
-same-length-4 c = c .before .loop .inv .1 .min0
+same-length-4 c = c .before .loop .inv .1 .ends
 
 same-length-5 : tie.Need-same-length-5 Inv-loop μ-loop
-same-length-5 c = c .before .loop .inv .1 .max0
+same-length-5 c = c .before .loop .inv .1 .links
 
 same-length-6 : tie.Need-same-length-6 Inv-loop μ-loop
-same-length-6 c = c .before .loop .inv .1 .next0
+same-length-6 c = c .before .loop .inv .1 .dense
 
 same-length-7 : tie.Need-same-length-7 Inv-loop μ-loop
-same-length-7 c = c .before .loop .inv .1 .prev0
+same-length-7 c = c .before .loop .inv .1 .reverse
 
 same-length-8 : tie.Need-same-length-8 Inv-loop μ-loop
-same-length-8 c = c .before .loop .inv .1 .min1
-
-same-length-9 : tie.Need-same-length-9 Inv-loop μ-loop
-same-length-9 c = c .before .loop .inv .1 .max1
-
-same-length-10 : tie.Need-same-length-10 Inv-loop μ-loop
-same-length-10 c = c .before .loop .inv .1 .next1
-
-same-length-11 : tie.Need-same-length-11 Inv-loop μ-loop
-same-length-11 c = c .before .loop .inv .1 .prev1
-
-same-length-12 : tie.Need-same-length-12 Inv-loop μ-loop
-same-length-12 c = c .before .loop .inv .1 .dense
-
-same-length-13 : tie.Need-same-length-13 Inv-loop μ-loop
-same-length-13 c = c .before .loop .inv .1 .reverse
-
-same-length-14 : tie.Need-same-length-14 Inv-loop μ-loop
-same-length-14 c = c .before .loop .inv .1 .free
+same-length-8 c = c .before .loop .inv .1 .free
 
 returns : tie.Need-returns Inv-loop μ-loop
 returns c =
-    let cs = now (c .before .before .before .before .before .before .before .before .before .before .before .before .before .before .before .before .before .before .args .picks) in
+    let cs = now (c .before .before .before .before .before .before .before .before .before .before .before .before .args .picks) in
     let v = c .before .loop .inv in
     let stop = sym (v .6) ∙ c .loop-test .left in (
       λ r h. let b = v .4 r h in (ended cs (c .before .loop .i) (b .0) (v .0) stop, moves-made cs (c .before .loop .i) (b .0) (v .0) stop (b .1)),
@@ -190,10 +161,4 @@ run-spec =
     same-length-6
     same-length-7
     same-length-8
-    same-length-9
-    same-length-10
-    same-length-11
-    same-length-12
-    same-length-13
-    same-length-14
     returns)
