@@ -5,15 +5,13 @@ ghost use Prim.Native.Nat.{_-_, _*_, _≤_};
 ghost use lib.Dec.{eqb};
 ghost use Rattle.geometry.specs.Lent.{points, Lent};
 ghost use Rattle.polygon.specs.Ring.{IsRing, indexOf};
-ghost use Rattle.intersection_set.specs.Pool.{lent, poolOf};
-ghost use Rattle.intersection_set.specs.declared.utils.Counts.{Counts};
+ghost use Rattle.intersection_set.specs.Pool.{lent};
 ghost use Rattle.intersection_set.specs.Within.{Room};
 ghost use Rattle.intersection_set.specs.Holds.{Beyond};
 ghost use Rattle.machine.specs.Answer.{finish as finished, refusal};
 ghost use Rattle.resolve.specs.Ended.{Ended, Counted};
 use super::run::begin;
 use super::run::run;
-use intersection_set::utils::Counts;
 use moves::checks::is_clockwise;
 use polygon::polygon::turn_round;
 

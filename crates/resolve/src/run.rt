@@ -7,7 +7,6 @@ ghost use lib.Dec.{ltb};
 ghost use lib.ListN.{length};
 ghost use Rattle.geometry.specs.Lent.{points, Lent};
 ghost use Rattle.intersection_set.specs.Pool.{lent, poolOf};
-ghost use Rattle.intersection_set.specs.declared.utils.Counts.{Counts};
 ghost use Rattle.intersection_set.specs.Within.{Room};
 ghost use Rattle.intersection_set.specs.Holds.{Holds, Beyond};
 ghost use Rattle.machine.specs.Machine.{start, after, place};

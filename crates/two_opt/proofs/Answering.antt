@@ -12,16 +12,14 @@ use borrow.Author.Tests.{ltb-false, ne-eqb}
 use Rattle.algebra.specs.Cases.{or-no-left, or-no-right, and-left, and-right}
 use Rattle.geometry.specs.Plane.{Point, near}
 use Rattle.geometry.specs.Lent.{points, Lent, coord}
-use Rattle.intersection_set.specs.Pool.{Pool}
-use Rattle.intersection_set.specs.declared.utils.Counts.{Counts}
-use Rattle.intersection_set.specs.Within.{Sized}
+use Rattle.intersection_set.specs.Pool.{Buffers}
+use Rattle.intersection_set.specs.Within.{Room}
 use Rattle.intersection_set.specs.Holds.{Beyond}
 use Rattle.intersection_set.proofs.PastTheEnd.{beyond-self}
 use Rattle.machine.specs.Answer.{refused, unfinished, delivered, finish, refusal, call}
 use Rattle.machine.proofs.Accepted.{Accepted, accepted}
 use Rattle.untangle.specs.Running.{stateAfter}
 use Rattle.resolve.specs.Ended.{Counted, lastRing, Ended}
-use Rattle.resolve.proofs.Ending.{recount}
 use Rattle.two_opt.specs.Checks.{anyBelow}
 use Rattle.two_opt.specs.Entry.{ringSized, recordSized, shortOf, Leaves}
 use Rattle.two_opt.proofs.Checking.{from-start}
@@ -31,13 +29,13 @@ module _ (n : ℕ) (pt : ℕ → Point) (s : Bool) (r cs : List ℕ) {k : ℕ} (
   pub refused-call : refused k ≡ call n pt s r cs
   refused-call = ap refused is ∙ rw (ne-eqb (refusal n pt s r) 0 (λ e. (let z = is ∙ e in omega (arith, z, some)))) refl
 
-  pub refused-leaves : (ring index : List ℕ) (p : Pool) → Leaves n pt s r cs ring index p ring index p
-  refused-leaves ring index p = record {
+  pub refused-leaves : (ring index : List ℕ) (b : Buffers) → Leaves n pt s r cs ring index b ring index b
+  refused-leaves ring index b = record {
     untouched = λ _. (refl, refl, refl);
     ended = λ e. absurd (let z = is ∙ e in omega (arith, z, some));
     past-ring = refl;
     past-index = refl;
-    past-records = beyond-self _ p;
+    past-records = beyond-self _ b;
   }
 
 -- ---- the lengths, where check 2 passes
@@ -46,30 +44,24 @@ long size [] h i l = absurd (omega arith)
 long size (a ∷ ls) h zero l = ltb-false a size (or-no-left (ltb a size) (anyBelow size ls) h)
 long size (a ∷ ls) h (suc i) l = long size ls (or-no-right (ltb a size) (anyBelow size ls) h) i (omega arith)
 
-module _ (n : ℕ) (x y : List ℤ) (ring index : List ℕ) (p : Pool) (h : shortOf n x y ring index p ≡ false) where
+module _ (n : ℕ) (x y : List ℤ) (ring index : List ℕ) (b : Buffers) (h : shortOf n x y ring index b ≡ false) where
   ring-long : (i : ℕ) → i < 4 → n ≤ getD (ringSized x y ring index) i 0
-  ring-long = long n (ringSized x y ring index) (or-no-left (anyBelow n (ringSized x y ring index)) (anyBelow (n * (n - 1)) (recordSized p)) h)
+  ring-long = long n (ringSized x y ring index) (or-no-left (anyBelow n (ringSized x y ring index)) (anyBelow (n * (n - 1)) (recordSized b)) h)
 
-  record-long : (i : ℕ) → i < 12 → n * (n - 1) ≤ getD (recordSized p) i 0
-  record-long = long (n * (n - 1)) (recordSized p) (or-no-right (anyBelow n (ringSized x y ring index)) (anyBelow (n * (n - 1)) (recordSized p)) h)
+  record-long : (i : ℕ) → i < 6 → n * (n - 1) ≤ getD (recordSized b) i 0
+  record-long = long (n * (n - 1)) (recordSized b) (or-no-right (anyBelow n (ringSized x y ring index)) (anyBelow (n * (n - 1)) (recordSized b)) h)
 
   pub long-ring : (n ≤ length x) × (n ≤ length y) × (n ≤ length ring) × (n ≤ length index)
   long-ring = (ring-long 0 (omega arith), ring-long 1 (omega arith), ring-long 2 (omega arith), ring-long 3 (omega arith))
 
-  pub long-records : (c : Counts) → Sized n (recount p c)
-  long-records c = record {
+  pub long-records : Room n b
+  long-records = record {
     in-heads = record-long 0 (omega arith);
-    in-min0 = record-long 1 (omega arith);
-    in-max0 = record-long 2 (omega arith);
-    in-next0 = record-long 3 (omega arith);
-    in-prev0 = record-long 4 (omega arith);
-    in-min1 = record-long 5 (omega arith);
-    in-max1 = record-long 6 (omega arith);
-    in-next1 = record-long 7 (omega arith);
-    in-prev1 = record-long 8 (omega arith);
-    in-dense = record-long 9 (omega arith);
-    in-reverse = record-long 10 (omega arith);
-    in-free = record-long 11 (omega arith);
+    in-ends = record-long 1 (omega arith);
+    in-links = record-long 2 (omega arith);
+    in-dense = record-long 3 (omega arith);
+    in-reverse = record-long 4 (omega arith);
+    in-free = record-long 5 (omega arith);
   }
 
 -- ---- a call that runs
@@ -116,14 +108,14 @@ module _ (n : ℕ) (pt : ℕ → Point) (s : Bool) (r cs : List ℕ) (ok : refus
       ∙ as-answered (eqb (length (t .store .dense)) 0) (finish n pt (t .ring)) (t .ring) (k .moves) (k .cross) (k .left) e
       ∙ rw ok refl
 
-  pub ran-leaves : {ring index part ipart : List ℕ} {p p' : Pool} → length part ≡ n → length ipart ≡ n → Ended n pt r cs part ipart p' → Beyond (n * (n - 1)) p' p
-      → Leaves n pt s r cs ring index p (part ++ drop (n - 0) ring) (ipart ++ drop (n - 0) index) p'
-  ran-leaves {ring} {index} {part} {ipart} {p} {p'} lr li w b = record {
-    untouched = λ z. absurd (z ok);
-    ended = λ _. (subst (λ (q : List ℕ). Ended n pt r cs q (take n (ipart ++ drop (n - 0) index)) p') (sym (take-part n part _ lr)) (subst (λ (q : List ℕ). Ended n pt r cs part q p') (sym (take-part n ipart _ li)) w));
+  pub ran-leaves : {ring index part ipart : List ℕ} {b b' : Buffers} → length part ≡ n → length ipart ≡ n → Ended n pt r cs part ipart b' → Beyond (n * (n - 1)) b' b
+      → Leaves n pt s r cs ring index b (part ++ drop (n - 0) ring) (ipart ++ drop (n - 0) index) b'
+  ran-leaves {ring} {index} {part} {ipart} {b} {b'} lr li w z = record {
+    untouched = λ y. absurd (y ok);
+    ended = λ _. (subst (λ (q : List ℕ). Ended n pt r cs q (take n (ipart ++ drop (n - 0) index)) b') (sym (take-part n part _ lr)) (subst (λ (q : List ℕ). Ended n pt r cs part q b') (sym (take-part n ipart _ li)) w));
     past-ring = drop-part n part _ lr ∙ ap (λ k. drop k ring) (from-start n);
     past-index = drop-part n ipart _ li ∙ ap (λ k. drop k index) (from-start n);
-    past-records = b;
+    past-records = z;
   }
 
 -- the same starting ring
@@ -131,5 +123,5 @@ module _ {n : ℕ} {pt : ℕ → Point} {r r' cs : List ℕ} (e : r ≡ r') wher
   pub counted-from : {m c l : ℕ} → Counted n pt r cs m c l → Counted n pt r' cs m c l
   counted-from {m} {c} {l} = subst (λ (q : List ℕ). Counted n pt q cs m c l) e
 
-  pub ended-from : {ring index : List ℕ} {p : Pool} → Ended n pt r cs ring index p → Ended n pt r' cs ring index p
-  ended-from {ring} {index} {p} = subst (λ (q : List ℕ). Ended n pt q cs ring index p) e
+  pub ended-from : {ring index : List ℕ} {b : Buffers} → Ended n pt r cs ring index b → Ended n pt r' cs ring index b
+  ended-from {ring} {index} {b} = subst (λ (q : List ℕ). Ended n pt q cs ring index b) e

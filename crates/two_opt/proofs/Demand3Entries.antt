@@ -8,7 +8,7 @@ use lib.ListN.{take}
 use Rattle.algebra.specs.Ranges.{upFrom}
 use Rattle.geometry.specs.Plane.{Point}
 use Rattle.geometry.specs.Lent.{points}
-use Rattle.intersection_set.specs.Pool.{Pool}
+use Rattle.intersection_set.specs.Pool.{Buffers}
 use Rattle.machine.specs.Machine.{after, place}
 use Rattle.machine.specs.Answer.{answer, refusal, call}
 use Rattle.machine.specs.Demand3.{Demand3}
@@ -19,12 +19,12 @@ use Rattle.two_opt.specs.declared.entries.Answer.{Answer as Answered}
 
 -- An accepted call from the ring r: its answer is that of the machine after the whole list of picks, the lent buffers hold that machine, and of it
 -- the words of demand 3 hold.
-pub record Delivers (n : ℕ) (pt : ℕ → Point) (r cs : List ℕ) (a : Answered) (ring' index' : List ℕ) (p' : Pool) : Type 0 where
+pub record Delivers (n : ℕ) (pt : ℕ → Point) (r cs : List ℕ) (a : Answered) (ring' index' : List ℕ) (p' : Buffers) : Type 0 where
   pub answers : answerOf a (take n ring') ≡ answer n pt r (after n pt place cs r)
   pub buffers : Ended n pt r cs (take n ring') (take n index') p'
   pub demand3 : Demand3 n pt place cs r
 
-module _ (n : ℕ) (x y : List ℤ) (cs ring index : List ℕ) (p : Pool) (a : Answered) (ring' index' : List ℕ) (p' : Pool) where
+module _ (n : ℕ) (x y : List ℤ) (cs ring index : List ℕ) (p : Buffers) (a : Answered) (ring' index' : List ℕ) (p' : Buffers) where
   by-contract : (s : Bool) (r : List ℕ) → answerOf a (take n ring') ≡ call n (points x y) s r cs → Leaves n (points x y) s r cs ring index p ring' index' p' → refusal n (points x y) s r ≡ 0 → Delivers n (points x y) r cs a ring' index' p'
   by-contract s r e w ok =
       let (is, d) = demand3-call n (points x y) s r ok cs in

@@ -7,7 +7,7 @@ use Prim.Native.Nat.{ℕ, _-_, _*_}
 use lib.IntN.{ℤ}
 use lib.ListN.{length, take, drop}
 use Rattle.geometry.specs.Plane.{Point}
-use Rattle.intersection_set.specs.Pool.{Pool, poolOf, countsOf}
+use Rattle.intersection_set.specs.Pool.{Buffers}
 use Rattle.intersection_set.specs.Holds.{Beyond}
 use Rattle.machine.specs.Answer.{Answer, refused, unfinished, delivered, refusal}
 use Rattle.resolve.specs.Ended.{Ended}
@@ -21,39 +21,22 @@ answerOf (Delivered moves cross) ring = delivered ring moves cross
 answerOf (Stopped moves left) ring = unfinished ring moves left
 answerOf (Refused number) ring = refused number
 
--- the lent record buffers; their counts stand in no buffer
-abbrev pub lent : List ℕ → List ℕ → List ℕ → List ℕ → List ℕ → List ℕ → List ℕ → List ℕ → List ℕ → List ℕ → List ℕ → List ℕ → Pool
-lent heads min0 max0 next0 prev0 min1 max1 next1 prev1 dense reverse free = poolOf heads min0 max0 next0 prev0 min1 max1 next1 prev1 dense reverse free (countsOf 0 0 0)
-
 -- what check 2 asks of n entries, and of n×(n-1)
 abbrev pub ringSized : List ℤ → List ℤ → List ℕ → List ℕ → List ℕ
 ringSized x y ring index = length x ∷ length y ∷ length ring ∷ length index ∷ []
 
-abbrev pub recordSized : Pool → List ℕ
-recordSized p =
-    length (p .links .heads)
-    ∷ length (p .edges .min0)
-    ∷ length (p .edges .max0)
-    ∷ length (p .links .next .x0)
-    ∷ length (p .links .prev .x0)
-    ∷ length (p .edges .min1)
-    ∷ length (p .edges .max1)
-    ∷ length (p .links .next .x1)
-    ∷ length (p .links .prev .x1)
-    ∷ length (p .order .dense)
-    ∷ length (p .order .reverse)
-    ∷ length (p .free)
-    ∷ []
+abbrev pub recordSized : Buffers → List ℕ
+recordSized b = length (b .heads) ∷ length (b .ends) ∷ length (b .links) ∷ length (b .dense) ∷ length (b .reverse) ∷ length (b .free) ∷ []
 
 -- check 2 of a call
-abbrev pub shortOf : ℕ → List ℤ → List ℤ → List ℕ → List ℕ → Pool → Bool
-shortOf n x y ring index p = short n (ringSized x y ring index) (recordSized p)
+abbrev pub shortOf : ℕ → List ℤ → List ℤ → List ℕ → List ℕ → Buffers → Bool
+shortOf n x y ring index b = short n (ringSized x y ring index) (recordSized b)
 
--- What a call from the ring r leaves where ring, index and p were lent: all as it was if a check refuses, else the machine after the picks cs; past
+-- What a call from the ring r leaves where ring, index and b were lent: all as it was if a check refuses, else the machine after the picks cs; past
 -- the sizes of check 2 all as it was.
-pub record Leaves (n : ℕ) (pt : ℕ → Point) (s : Bool) (r cs ring index : List ℕ) (p : Pool) (ring' index' : List ℕ) (p' : Pool) : Type 0 where
-  pub untouched : refusal n pt s r ≢ 0 → (ring' ≡ ring) × (index' ≡ index) × (p' ≡ p)
-  pub ended : refusal n pt s r ≡ 0 → Ended n pt r cs (take n ring') (take n index') p'
+pub record Leaves (n : ℕ) (pt : ℕ → Point) (s : Bool) (r cs ring index : List ℕ) (b : Buffers) (ring' index' : List ℕ) (b' : Buffers) : Type 0 where
+  pub untouched : refusal n pt s r ≢ 0 → (ring' ≡ ring) × (index' ≡ index) × (b' ≡ b)
+  pub ended : refusal n pt s r ≡ 0 → Ended n pt r cs (take n ring') (take n index') b'
   pub past-ring : drop n ring' ≡ drop n ring
   pub past-index : drop n index' ≡ drop n index
-  pub past-records : Beyond (n * (n - 1)) p' p
+  pub past-records : Beyond (n * (n - 1)) b' b

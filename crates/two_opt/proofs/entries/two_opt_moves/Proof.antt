@@ -10,10 +10,9 @@ use lib.ListN.{length, take, drop}
 use Rattle.algebra.specs.Ranges.{upFrom}
 use Rattle.geometry.specs.Plane.{Point}
 use Rattle.geometry.specs.Lent.{points}
-use Rattle.intersection_set.specs.Pool.{Pool, countsOf}
-use Rattle.intersection_set.specs.declared.utils.Counts.{Counts}
+use Rattle.intersection_set.specs.Pool.{Buffers, lent}
 use Rattle.machine.specs.Answer.{refusal}
-use Rattle.two_opt.specs.Entry.{lent, shortOf}
+use Rattle.two_opt.specs.Entry.{shortOf}
 use Rattle.two_opt.proofs.Checking.{same-refusal}
 use Rattle.two_opt.proofs.Answering.{refused-call, refused-leaves, long-ring, long-records, part-length, take-part, same-whole, accepts, runs, run-lent, ran-call, ran-leaves}
 use Rattle.two_opt.proofs.entries.two_opt_moves.Statement.{statement}
@@ -23,8 +22,8 @@ use Rattle.two_opt.proofs.entries.two_opt_moves.Tie as tie
 abbrev board : tie.Start → ℕ → Point
 board s = points (now (s .args .x)) (now (s .args .y))
 
-abbrev records : tie.Start → Pool
-records s = lent (now (s .args .heads)) (now (s .args .min0)) (now (s .args .max0)) (now (s .args .next0)) (now (s .args .prev0)) (now (s .args .min1)) (now (s .args .max1)) (now (s .args .next1)) (now (s .args .prev1)) (now (s .args .dense)) (now (s .args .reverse)) (now (s .args .free))
+abbrev records : tie.Start → Buffers
+records s = lent (now (s .args .heads)) (now (s .args .ends)) (now (s .args .links)) (now (s .args .dense)) (now (s .args .reverse)) (now (s .args .free))
 
 abbrev is-short : tie.Start → Bool
 is-short s = shortOf (s .args .n) (now (s .args .x)) (now (s .args .y)) (now (s .args .ring)) (now (s .args .index)) (records s)
@@ -39,15 +38,15 @@ too-short-requires : tie.Need-too-short-requires
 too-short-requires c κs = search needs
 
 refusal-in-order-requires : tie.Need-refusal-in-order-requires
-refusal-in-order-requires c κs = λ h e. (let l = long-at (c .before .before .before .before .before .before .before .before .before .before .before .before .before .before .before .before) (sym (c .too-short .ensures h) ∙ e) in (l .0, l .1))
+refusal-in-order-requires c κs = λ h e. (let l = long-at (c .before .before .before .before .before .before .before .before .before .before) (sym (c .too-short .ensures h) ∙ e) in (l .0, l .1))
 
 -- the number is that of the definition
-is-refusal : (c : tie.After-refusal-in-order) → let s = c .before .before .before .before .before .before .before .before .before .before .before .before .before .before .before .before .before in c .refusal-in-order .result ≡ refusal (s .args .n) (board s) (is-short s) (first s)
-is-refusal c = let s = c .before .before .before .before .before .before .before .before .before .before .before .before .before .before .before .before .before in c .refusal-in-order .ensures ∙ same-refusal (s .args .n) (board s) (c .before .too-short .result) (is-short s) (first s) (c .before .too-short .ensures)
+is-refusal : (c : tie.After-refusal-in-order) → let s = c .before .before .before .before .before .before .before .before .before .before .before in c .refusal-in-order .result ≡ refusal (s .args .n) (board s) (is-short s) (first s)
+is-refusal c = let s = c .before .before .before .before .before .before .before .before .before .before .before in c .refusal-in-order .ensures ∙ same-refusal (s .args .n) (board s) (c .before .too-short .result) (is-short s) (first s) (c .before .too-short .ensures)
 
 returns : tie.Need-returns
 returns c =
-    let s = c .before .before .before .before .before .before .before .before .before .before .before .before .before .before .before .before .before .before in
+    let s = c .before .before .before .before .before .before .before .before .before .before .before .before in
     let n = s .args .n in
     let cs = now (s .args .picks) in (
       refused-call n (board s) (is-short s) (first s) cs (is-refusal (c .before)) (c .if1 .taken),
@@ -55,11 +54,11 @@ returns c =
     )
 
 -- no check refuses
-passes : (c : tie.Else1) → let s = c .before .before .before .before .before .before .before .before .before .before .before .before .before .before .before .before .before .before in refusal (s .args .n) (board s) (is-short s) (first s) ≡ 0
+passes : (c : tie.Else1) → let s = c .before .before .before .before .before .before .before .before .before .before .before .before in refusal (s .args .n) (board s) (is-short s) (first s) ≡ 0
 passes c = sym (is-refusal (c .before)) ∙ omega (arith, c .if1 .left)
 
-enough : (c : tie.Else1) → is-short (c .before .before .before .before .before .before .before .before .before .before .before .before .before .before .before .before .before .before) ≡ false
-enough c = let s = c .before .before .before .before .before .before .before .before .before .before .before .before .before .before .before .before .before .before in accepts (s .args .n) (now (s .args .x)) (now (s .args .y)) (is-short s) (first s) (passes c) .long
+enough : (c : tie.Else1) → is-short (c .before .before .before .before .before .before .before .before .before .before .before .before) ≡ false
+enough c = let s = c .before .before .before .before .before .before .before .before .before .before .before .before in accepts (s .args .n) (now (s .args .x)) (now (s .args .y)) (is-short s) (first s) (passes c) .long
 
 sub-from-order : tie.Need-sub-from-order
 sub-from-order c = search needs
@@ -68,7 +67,7 @@ part-from-order-start : tie.Need-part-from-order-start
 part-from-order-start c = search needs
 
 part-from-order-end : tie.Need-part-from-order-end
-part-from-order-end c = long-at (c .before .before .before .before .before .before .before .before .before .before .before .before .before .before .before .before .before .before) (enough c) .2
+part-from-order-end c = long-at (c .before .before .before .before .before .before .before .before .before .before .before .before) (enough c) .2
 
 sub-from-order-2 : tie.Need-sub-from-order-2
 sub-from-order-2 c = search needs
@@ -77,87 +76,68 @@ part-from-order-start-2 : tie.Need-part-from-order-start-2
 part-from-order-start-2 c = search needs
 
 part-from-order-end-2 : tie.Need-part-from-order-end-2
-part-from-order-end-2 c = long-at (c .before .before .before .before .before .before .before .before .before .before .before .before .before .before .before .before .before .before .before) (enough (c .before)) .3
+part-from-order-end-2 c = long-at (c .before .before .before .before .before .before .before .before .before .before .before .before .before) (enough (c .before)) .3
 
 from-order-requires : tie.Need-from-order-requires
 from-order-requires c κs =
-    let s = c .before .before .before .before .before .before .before .before .before .before .before .before .before .before .before .before .before .before .before .before .before .before .before .before .before .before .before .before .before .before .before .before in
+    let s = c .before .before .before .before .before .before .before .before .before .before .before .before .before .before .before .before .before .before .before .before in
     let n = s .args .n in
-    let l = long-at s (enough (c .before .before .before .before .before .before .before .before .before .before .before .before .before .before)) in
+    let l = long-at s (enough (c .before .before .before .before .before .before .before .before)) in
     let x = now (s .args .x) in
     let y = now (s .args .y) in
-    let ok = passes (c .before .before .before .before .before .before .before .before .before .before .before .before .before .before) in (
+    let ok = passes (c .before .before .before .before .before .before .before .before) in (
       run-lent n x y (is-short s) (first s) ok (l .0) (l .1),
       runs n x y (is-short s) (first s) ok,
       part-length n (now (s .args .ring)) (l .2),
       part-length n (now (s .args .index)) (l .3),
-      λ k. long-records n x y (now (s .args .ring)) (now (s .args .index)) (records s) (enough (c .before .before .before .before .before .before .before .before .before .before .before .before .before .before)) k,
+      long-records n x y (now (s .args .ring)) (now (s .args .index)) (records s) (enough (c .before .before .before .before .before .before .before .before)),
     )
 
 answer-of-requires : tie.Need-answer-of-requires
 answer-of-requires c κs = search needs
 
 -- what the run wrote has one entry for each point
-whole-ring : (c : tie.After-answer-of) → length (c .before .before .before .before .before .before .before .before .before .before .before .before .before .before .before .before .before .before .before .before .before .before .before .before .before .before .before .before .before .from-order .last .1 .1 .1 .1 .0) ≡ c .before .before .before .before .before .before .before .before .before .before .before .before .before .before .before .before .before .before .before .before .before .before .before .before .before .before .before .before .before .before .before .before .before .before .before .before .before .before .before .before .before .before .before .before .before .before .before .before .before .before .before .before .before .before .before .before .before .before .before .before .before .before .args .n
-whole-ring c = c .before .before .before .before .before .before .before .before .before .before .before .before .before .before .before .before .before .before .before .before .before .before .before .before .before .before .before .before .before .from-order .kept .1 .1 .1 .1 .0 ∙ part-length (c .before .before .before .before .before .before .before .before .before .before .before .before .before .before .before .before .before .before .before .before .before .before .before .before .before .before .before .before .before .before .before .before .before .before .before .before .before .before .before .before .before .before .before .before .before .before .before .before .before .before .before .before .before .before .before .before .before .before .before .before .before .before .args .n) (now (c .before .before .before .before .before .before .before .before .before .before .before .before .before .before .before .before .before .before .before .before .before .before .before .before .before .before .before .before .before .before .before .before .before .before .before .before .before .before .before .before .before .before .before .before .before .before .before .before .before .before .before .before .before .before .before .before .before .before .before .before .before .before .args .ring)) (long-at (c .before .before .before .before .before .before .before .before .before .before .before .before .before .before .before .before .before .before .before .before .before .before .before .before .before .before .before .before .before .before .before .before .before .before .before .before .before .before .before .before .before .before .before .before .before .before .before .before .before .before .before .before .before .before .before .before .before .before .before .before .before .before) (enough (c .before .before .before .before .before .before .before .before .before .before .before .before .before .before .before .before .before .before .before .before .before .before .before .before .before .before .before .before .before .before .before .before .before .before .before .before .before .before .before .before .before .before .before .before)) .2)
+whole-ring : (c : tie.After-answer-of) → length (c .before .before .before .before .before .before .before .before .before .before .before .before .before .before .before .before .before .from-order .last .1 .1 .1 .1 .0) ≡ c .before .before .before .before .before .before .before .before .before .before .before .before .before .before .before .before .before .before .before .before .before .before .before .before .before .before .before .before .before .before .before .before .before .before .before .before .before .before .args .n
+whole-ring c = c .before .before .before .before .before .before .before .before .before .before .before .before .before .before .before .before .before .from-order .kept .1 .1 .1 .1 .0 ∙ part-length (c .before .before .before .before .before .before .before .before .before .before .before .before .before .before .before .before .before .before .before .before .before .before .before .before .before .before .before .before .before .before .before .before .before .before .before .before .before .before .args .n) (now (c .before .before .before .before .before .before .before .before .before .before .before .before .before .before .before .before .before .before .before .before .before .before .before .before .before .before .before .before .before .before .before .before .before .before .before .before .before .before .args .ring)) (long-at (c .before .before .before .before .before .before .before .before .before .before .before .before .before .before .before .before .before .before .before .before .before .before .before .before .before .before .before .before .before .before .before .before .before .before .before .before .before .before) (enough (c .before .before .before .before .before .before .before .before .before .before .before .before .before .before .before .before .before .before .before .before .before .before .before .before .before .before)) .2)
 
-whole-index : (c : tie.After-answer-of) → length (c .before .before .before .before .before .before .before .before .before .before .before .before .before .before .before .before .before .before .before .before .before .before .before .before .before .before .before .before .before .from-order .last .1 .1 .1 .1 .1 .0) ≡ c .before .before .before .before .before .before .before .before .before .before .before .before .before .before .before .before .before .before .before .before .before .before .before .before .before .before .before .before .before .before .before .before .before .before .before .before .before .before .before .before .before .before .before .before .before .before .before .before .before .before .before .before .before .before .before .before .before .before .before .before .before .before .args .n
-whole-index c = c .before .before .before .before .before .before .before .before .before .before .before .before .before .before .before .before .before .before .before .before .before .before .before .before .before .before .before .before .before .from-order .kept .1 .1 .1 .1 .1 .0 ∙ part-length (c .before .before .before .before .before .before .before .before .before .before .before .before .before .before .before .before .before .before .before .before .before .before .before .before .before .before .before .before .before .before .before .before .before .before .before .before .before .before .before .before .before .before .before .before .before .before .before .before .before .before .before .before .before .before .before .before .before .before .before .before .before .before .args .n) (now (c .before .before .before .before .before .before .before .before .before .before .before .before .before .before .before .before .before .before .before .before .before .before .before .before .before .before .before .before .before .before .before .before .before .before .before .before .before .before .before .before .before .before .before .before .before .before .before .before .before .before .before .before .before .before .before .before .before .before .before .before .before .before .args .index)) (long-at (c .before .before .before .before .before .before .before .before .before .before .before .before .before .before .before .before .before .before .before .before .before .before .before .before .before .before .before .before .before .before .before .before .before .before .before .before .before .before .before .before .before .before .before .before .before .before .before .before .before .before .before .before .before .before .before .before .before .before .before .before .before .before) (enough (c .before .before .before .before .before .before .before .before .before .before .before .before .before .before .before .before .before .before .before .before .before .before .before .before .before .before .before .before .before .before .before .before .before .before .before .before .before .before .before .before .before .before .before .before)) .3)
+whole-index : (c : tie.After-answer-of) → length (c .before .before .before .before .before .before .before .before .before .before .before .before .before .before .before .before .before .from-order .last .1 .1 .1 .1 .1 .0) ≡ c .before .before .before .before .before .before .before .before .before .before .before .before .before .before .before .before .before .before .before .before .before .before .before .before .before .before .before .before .before .before .before .before .before .before .before .before .before .before .args .n
+whole-index c = c .before .before .before .before .before .before .before .before .before .before .before .before .before .before .before .before .before .from-order .kept .1 .1 .1 .1 .1 .0 ∙ part-length (c .before .before .before .before .before .before .before .before .before .before .before .before .before .before .before .before .before .before .before .before .before .before .before .before .before .before .before .before .before .before .before .before .before .before .before .before .before .before .args .n) (now (c .before .before .before .before .before .before .before .before .before .before .before .before .before .before .before .before .before .before .before .before .before .before .before .before .before .before .before .before .before .before .before .before .before .before .before .before .before .before .args .index)) (long-at (c .before .before .before .before .before .before .before .before .before .before .before .before .before .before .before .before .before .before .before .before .before .before .before .before .before .before .before .before .before .before .before .before .before .before .before .before .before .before) (enough (c .before .before .before .before .before .before .before .before .before .before .before .before .before .before .before .before .before .before .before .before .before .before .before .before .before .before)) .3)
 
 same-length : tie.Need-same-length
-same-length c = same-whole (c .before .before .before .before .before .before .before .before .before .before .before .before .before .before .before .before .before .before .before .before .before .before .before .before .before .before .before .before .before .before .before .before .before .before .before .before .before .before .before .before .before .before .before .before .before .before .before .before .before .before .before .before .before .before .before .before .before .before .before .before .before .before .args .n) (c .before .before .before .before .before .before .before .before .before .before .before .before .before .before .before .before .before .before .before .before .before .before .before .before .before .before .before .before .before .from-order .last .1 .1 .1 .1 .0) (now (c .before .before .before .before .before .before .before .before .before .before .before .before .before .before .before .before .before .before .before .before .before .before .before .before .before .before .before .before .before .before .before .before .before .before .before .before .before .before .before .before .before .before .before .before .before .before .before .before .before .before .before .before .before .before .before .before .before .before .before .before .before .before .args .ring)) (whole-ring c) (long-at (c .before .before .before .before .before .before .before .before .before .before .before .before .before .before .before .before .before .before .before .before .before .before .before .before .before .before .before .before .before .before .before .before .before .before .before .before .before .before .before .before .before .before .before .before .before .before .before .before .before .before .before .before .before .before .before .before .before .before .before .before .before .before) (enough (c .before .before .before .before .before .before .before .before .before .before .before .before .before .before .before .before .before .before .before .before .before .before .before .before .before .before .before .before .before .before .before .before .before .before .before .before .before .before .before .before .before .before .before .before)) .2)
+same-length c = same-whole (c .before .before .before .before .before .before .before .before .before .before .before .before .before .before .before .before .before .before .before .before .before .before .before .before .before .before .before .before .before .before .before .before .before .before .before .before .before .before .args .n) (c .before .before .before .before .before .before .before .before .before .before .before .before .before .before .before .before .before .from-order .last .1 .1 .1 .1 .0) (now (c .before .before .before .before .before .before .before .before .before .before .before .before .before .before .before .before .before .before .before .before .before .before .before .before .before .before .before .before .before .before .before .before .before .before .before .before .before .before .args .ring)) (whole-ring c) (long-at (c .before .before .before .before .before .before .before .before .before .before .before .before .before .before .before .before .before .before .before .before .before .before .before .before .before .before .before .before .before .before .before .before .before .before .before .before .before .before) (enough (c .before .before .before .before .before .before .before .before .before .before .before .before .before .before .before .before .before .before .before .before .before .before .before .before .before .before)) .2)
 
 same-length-2 : tie.Need-same-length-2
-same-length-2 c = same-whole (c .before .before .before .before .before .before .before .before .before .before .before .before .before .before .before .before .before .before .before .before .before .before .before .before .before .before .before .before .before .before .before .before .before .before .before .before .before .before .before .before .before .before .before .before .before .before .before .before .before .before .before .before .before .before .before .before .before .before .before .before .before .before .args .n) (c .before .before .before .before .before .before .before .before .before .before .before .before .before .before .before .before .before .before .before .before .before .before .before .before .before .before .before .before .before .from-order .last .1 .1 .1 .1 .1 .0) (now (c .before .before .before .before .before .before .before .before .before .before .before .before .before .before .before .before .before .before .before .before .before .before .before .before .before .before .before .before .before .before .before .before .before .before .before .before .before .before .before .before .before .before .before .before .before .before .before .before .before .before .before .before .before .before .before .before .before .before .before .before .before .before .args .index)) (whole-index c) (long-at (c .before .before .before .before .before .before .before .before .before .before .before .before .before .before .before .before .before .before .before .before .before .before .before .before .before .before .before .before .before .before .before .before .before .before .before .before .before .before .before .before .before .before .before .before .before .before .before .before .before .before .before .before .before .before .before .before .before .before .before .before .before .before) (enough (c .before .before .before .before .before .before .before .before .before .before .before .before .before .before .before .before .before .before .before .before .before .before .before .before .before .before .before .before .before .before .before .before .before .before .before .before .before .before .before .before .before .before .before .before)) .3)
+same-length-2 c = same-whole (c .before .before .before .before .before .before .before .before .before .before .before .before .before .before .before .before .before .before .before .before .before .before .before .before .before .before .before .before .before .before .before .before .before .before .before .before .before .before .args .n) (c .before .before .before .before .before .before .before .before .before .before .before .before .before .before .before .before .before .from-order .last .1 .1 .1 .1 .1 .0) (now (c .before .before .before .before .before .before .before .before .before .before .before .before .before .before .before .before .before .before .before .before .before .before .before .before .before .before .before .before .before .before .before .before .before .before .before .before .before .before .args .index)) (whole-index c) (long-at (c .before .before .before .before .before .before .before .before .before .before .before .before .before .before .before .before .before .before .before .before .before .before .before .before .before .before .before .before .before .before .before .before .before .before .before .before .before .before) (enough (c .before .before .before .before .before .before .before .before .before .before .before .before .before .before .before .before .before .before .before .before .before .before .before .before .before .before)) .3)
 
 same-length-3 : tie.Need-same-length-3
-same-length-3 c = c .before .before .before .before .before .before .before .before .before .before .before .before .before .before .before .before .before .before .before .before .before .before .before .before .before .before .before .before .before .from-order .kept .1 .1 .1 .1 .1 .1 .0
+same-length-3 c = c .before .before .before .before .before .before .before .before .before .before .before .before .before .before .before .before .before .from-order .kept .1 .1 .1 .1 .1 .1 .0
 
 same-length-4 : tie.Need-same-length-4
-same-length-4 c = c .before .before .before .before .before .before .before .before .before .before .before .before .before .before .before .before .before .before .before .before .before .before .before .before .before .before .before .before .before .from-order .kept .1 .1 .1 .1 .1 .1 .1 .0
+same-length-4 c = c .before .before .before .before .before .before .before .before .before .before .before .before .before .before .before .before .before .from-order .kept .1 .1 .1 .1 .1 .1 .1 .0
 
 same-length-5 : tie.Need-same-length-5
-same-length-5 c = c .before .before .before .before .before .before .before .before .before .before .before .before .before .before .before .before .before .before .before .before .before .before .before .before .before .before .before .before .before .from-order .kept .1 .1 .1 .1 .1 .1 .1 .1 .0
+same-length-5 c = c .before .before .before .before .before .before .before .before .before .before .before .before .before .before .before .before .before .from-order .kept .1 .1 .1 .1 .1 .1 .1 .1 .0
 
 same-length-6 : tie.Need-same-length-6
-same-length-6 c = c .before .before .before .before .before .before .before .before .before .before .before .before .before .before .before .before .before .before .before .before .before .before .before .before .before .before .before .before .before .from-order .kept .1 .1 .1 .1 .1 .1 .1 .1 .1 .0
+same-length-6 c = c .before .before .before .before .before .before .before .before .before .before .before .before .before .before .before .before .before .from-order .kept .1 .1 .1 .1 .1 .1 .1 .1 .1 .0
 
 same-length-7 : tie.Need-same-length-7
-same-length-7 c = c .before .before .before .before .before .before .before .before .before .before .before .before .before .before .before .before .before .before .before .before .before .before .before .before .before .before .before .before .before .from-order .kept .1 .1 .1 .1 .1 .1 .1 .1 .1 .1 .0
+same-length-7 c = c .before .before .before .before .before .before .before .before .before .before .before .before .before .before .before .before .before .from-order .kept .1 .1 .1 .1 .1 .1 .1 .1 .1 .1 .0
 
 same-length-8 : tie.Need-same-length-8
-same-length-8 c = c .before .before .before .before .before .before .before .before .before .before .before .before .before .before .before .before .before .before .before .before .before .before .before .before .before .before .before .before .before .from-order .kept .1 .1 .1 .1 .1 .1 .1 .1 .1 .1 .1 .0
-
-same-length-9 : tie.Need-same-length-9
-same-length-9 c = c .before .before .before .before .before .before .before .before .before .before .before .before .before .before .before .before .before .before .before .before .before .before .before .before .before .before .before .before .before .from-order .kept .1 .1 .1 .1 .1 .1 .1 .1 .1 .1 .1 .1 .0
-
-same-length-10 : tie.Need-same-length-10
-same-length-10 c = c .before .before .before .before .before .before .before .before .before .before .before .before .before .before .before .before .before .before .before .before .before .before .before .before .before .before .before .before .before .from-order .kept .1 .1 .1 .1 .1 .1 .1 .1 .1 .1 .1 .1 .1 .0
-
-same-length-11 : tie.Need-same-length-11
-same-length-11 c = c .before .before .before .before .before .before .before .before .before .before .before .before .before .before .before .before .before .before .before .before .before .before .before .before .before .before .before .before .before .from-order .kept .1 .1 .1 .1 .1 .1 .1 .1 .1 .1 .1 .1 .1 .1 .0
-
-same-length-12 : tie.Need-same-length-12
-same-length-12 c = c .before .before .before .before .before .before .before .before .before .before .before .before .before .before .before .before .before .before .before .before .before .before .before .before .before .before .before .before .before .from-order .kept .1 .1 .1 .1 .1 .1 .1 .1 .1 .1 .1 .1 .1 .1 .1 .0
-
-same-length-13 : tie.Need-same-length-13
-same-length-13 c = c .before .before .before .before .before .before .before .before .before .before .before .before .before .before .before .before .before .before .before .before .before .before .before .before .before .before .before .before .before .from-order .kept .1 .1 .1 .1 .1 .1 .1 .1 .1 .1 .1 .1 .1 .1 .1 .1 .0
-
-same-length-14 : tie.Need-same-length-14
-same-length-14 c = c .before .before .before .before .before .before .before .before .before .before .before .before .before .before .before .before .before .before .before .before .before .before .before .before .before .before .before .before .before .from-order .kept .1 .1 .1 .1 .1 .1 .1 .1 .1 .1 .1 .1 .1 .1 .1 .1 .1 .0
+same-length-8 c = c .before .before .before .before .before .before .before .before .before .before .before .before .before .before .before .before .before .from-order .kept .1 .1 .1 .1 .1 .1 .1 .1 .1 .1 .1 .0
 
 returns-2 : tie.Need-returns-2
 returns-2 c =
-    let s = c .before .before .before .before .before .before .before .before .before .before .before .before .before .before .before .before .before .before .before .before .before .before .before .before .before .before .before .before .before .before .before .before .before .before .before .before .before .before .before .before .before .before .before .before .before .before .before .before .before .before .before .before .before .before .before .before .before .before .before .before .before .before in
+    let s = c .before .before .before .before .before .before .before .before .before .before .before .before .before .before .before .before .before .before .before .before .before .before .before .before .before .before .before .before .before .before .before .before .before .before .before .before .before .before in
     let n = s .args .n in
     let cs = now (s .args .picks) in
-    let ok = passes (c .before .before .before .before .before .before .before .before .before .before .before .before .before .before .before .before .before .before .before .before .before .before .before .before .before .before .before .before .before .before .before .before .before .before .before .before .before .before .before .before .before .before .before .before) in
-    let none : Counts = countsOf 0 0 0 in
-    let part = c .before .before .before .before .before .before .before .before .before .before .before .before .before .before .before .before .before .before .before .before .before .before .before .before .before .before .before .before .before .from-order .last .1 .1 .1 .1 .0 in
-    let w = c .before .before .before .before .before .before .before .before .before .before .before .before .before .before .before .before .before .before .before .before .before .before .before .before .before .before .before .before .before .from-order .ensures .1 none in (
+    let ok = passes (c .before .before .before .before .before .before .before .before .before .before .before .before .before .before .before .before .before .before .before .before .before .before .before .before .before .before) in
+    let part = c .before .before .before .before .before .before .before .before .before .before .before .before .before .before .before .before .before .from-order .last .1 .1 .1 .1 .0 in
+    let w = c .before .before .before .before .before .before .before .before .before .before .before .before .before .before .before .before .before .from-order .ensures .1 in (
       c .answer-of .ensures (take n (part ++ drop (n - 0) (now (s .args .ring))))
-          ∙ ran-call n (board s) (is-short s) (first s) cs ok (c .before .before .before .before .before .before .before .before .before .before .before .before .before .before .before .before .before .before .before .before .before .before .before .before .before .before .before .before .before .from-order .ensures .0) (take-part n part (drop (n - 0) (now (s .args .ring))) (whole-ring c) ∙ w .same-ring),
-      ran-leaves n (board s) (is-short s) (first s) cs ok (whole-ring c) (whole-index c) w (c .before .before .before .before .before .before .before .before .before .before .before .before .before .before .before .before .before .before .before .before .before .before .before .before .before .before .before .before .before .from-order .ensures .2 none),
+          ∙ ran-call n (board s) (is-short s) (first s) cs ok (c .before .before .before .before .before .before .before .before .before .before .before .before .before .before .before .before .before .from-order .ensures .0) (take-part n part (drop (n - 0) (now (s .args .ring))) (whole-ring c) ∙ w .same-ring),
+      ran-leaves n (board s) (is-short s) (first s) cs ok (whole-ring c) (whole-index c) w (c .before .before .before .before .before .before .before .before .before .before .before .before .before .before .before .before .before .from-order .ensures .2),
     )
 
 pub two-opt-moves-spec : {M : Type 1} → statement M
@@ -183,10 +163,4 @@ two-opt-moves-spec =
     same-length-6
     same-length-7
     same-length-8
-    same-length-9
-    same-length-10
-    same-length-11
-    same-length-12
-    same-length-13
-    same-length-14
     returns-2)
