@@ -279,17 +279,7 @@ pub fn push_if(
 {
     if ok {
         let isect = IndexIntersection::new(a, b);
-        push(
-            n,
-            isect,
-            c,
-            heads,
-            ends,
-            links,
-            dense,
-            reverse,
-            free,
-        )
+        push(n, isect, c, heads, ends, links, dense, reverse, free)
     } else {
         c
     }
@@ -373,29 +363,14 @@ pub fn remove_all(
     let mut k = c;
     let mut newest = by_edge(n, e, heads);
     while !newest.is_none() {
-        k = remove(
-            n,
-            newest,
-            k,
-            heads,
-            ends,
-            links,
-            dense,
-            reverse,
-            free,
-        );
+        k = remove(n, newest, k, heads, ends, links, dense, reverse, free);
         newest = by_edge(n, e, heads);
     }
     k
 }
 
 // The record that a pick takes from the dense order.
-pub fn random(
-    pick: u32,
-    c: Counts,
-    ends: &[u64],
-    dense: &[u16],
-) -> IndexIntersection
+pub fn random(pick: u32, c: Counts, ends: &[u64], dense: &[u16]) -> IndexIntersection
     requires { ⌜ (0 < c .live) × ((n : ℕ) × (p : Pool) × (s : Store) × Holds n p s × (p .edges ≡ edgesOf (now ends)) × (p .order .dense ≡ now dense) × (p .counts ≡ c)) ⌝ }
     ensures { λ r. ⌜ ((n : ℕ) (p : Pool) (s : Store) → Holds n p s → p .edges ≡ edgesOf (now (ends .entry)) → p .order .dense ≡ now (dense .entry) → p .counts ≡ c
         → (edgeOf (r .min) ≡ getD (s .dense) (chosen pick s) noRec .e0) × (edgeOf (r .max) ≡ getD (s .dense) (chosen pick s) noRec .e1)) ⌝ }

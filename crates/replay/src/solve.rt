@@ -36,18 +36,13 @@ fn write_slot(slot: u16, ends: &[u64], line: &mut [u8]) {
         (w % 65536) as u16,
         (w / 65536 % 65536) as u16,
         (w / 4294967296 % 65536) as u16,
-        (w / 281474976710656) as u16,
+        (w / 281474976710656 % 65536) as u16,
         line,
     );
 }
 
 // The first `left` records in dense order.
-fn write_records(
-    left: usize,
-    dense: &[u16],
-    ends: &[u64],
-    line: &mut [u8],
-) {
+fn write_records(left: usize, dense: &[u16], ends: &[u64], line: &mut [u8]) {
     let mut i = 0usize;
     while i < dense.len() {
         if i >= left {

@@ -57,18 +57,7 @@ pub fn resolve(
         × Ended n (points (now (x .entry)) (now (y .entry))) (now (ring .entry)) (now (picks .entry)) (now (ring .exit)) (now (index .exit)) (lent (now (heads .exit)) (now (ends .exit)) (now (links .exit)) (now (dense .exit)) (now (reverse .exit)) (now (free .exit)))
         × Beyond (n * (n - 1)) (lent (now (heads .exit)) (now (ends .exit)) (now (links .exit)) (now (dense .exit)) (now (reverse .exit)) (now (free .exit))) (lent (now (heads .entry)) (now (ends .entry)) (now (links .entry)) (now (dense .entry)) (now (reverse .entry)) (now (free .entry))) ⌝ }
 {
-    let started = begin(
-        n,
-        x,
-        y,
-        ring,
-        heads,
-        ends,
-        links,
-        dense,
-        reverse,
-        free,
-    );
+    let started = begin(n, x, y, ring, heads, ends, links, dense, reverse, free);
     let moved = run(
         n,
         x,

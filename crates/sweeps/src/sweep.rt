@@ -145,17 +145,7 @@ pub fn remove_edges(
     let mut i: usize = 0;
     while i < m {
         let edge = removed.nth(i);
-        k = remove_all(
-            n,
-            edge,
-            k,
-            heads,
-            ends,
-            links,
-            dense,
-            reverse,
-            free,
-        );
+        k = remove_all(n, edge, k, heads, ends, links, dense, reverse, free);
         i += 1;
     }
     k

@@ -43,17 +43,7 @@ pub fn untangle(
     let plan = plan(x, y, ring, index, min, max);
     let removed = removed_edges(ring, plan);
     let inserted = inserted_edges(ring, plan);
-    let left = remove_edges(
-        n,
-        removed,
-        c,
-        heads,
-        ends,
-        links,
-        dense,
-        reverse,
-        free,
-    );
+    let left = remove_edges(n, removed, c, heads, ends, links, dense, reverse, free);
     turn_ring(ring, index, plan);
     sweeps(
         true,

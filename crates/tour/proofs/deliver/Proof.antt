@@ -39,24 +39,6 @@ slice-aggregate-two-opt-moves-7 c = search needs
 slice-aggregate-two-opt-moves-8 : tie.Need-slice-aggregate-two-opt-moves-8
 slice-aggregate-two-opt-moves-8 c = search needs
 
-slice-aggregate-two-opt-moves-9 : tie.Need-slice-aggregate-two-opt-moves-9
-slice-aggregate-two-opt-moves-9 c = search needs
-
-slice-aggregate-two-opt-moves-10 : tie.Need-slice-aggregate-two-opt-moves-10
-slice-aggregate-two-opt-moves-10 c = search needs
-
-slice-aggregate-two-opt-moves-11 : tie.Need-slice-aggregate-two-opt-moves-11
-slice-aggregate-two-opt-moves-11 c = search needs
-
-slice-aggregate-two-opt-moves-12 : tie.Need-slice-aggregate-two-opt-moves-12
-slice-aggregate-two-opt-moves-12 c = search needs
-
-slice-aggregate-two-opt-moves-13 : tie.Need-slice-aggregate-two-opt-moves-13
-slice-aggregate-two-opt-moves-13 c = search needs
-
-slice-aggregate-two-opt-moves-14 : tie.Need-slice-aggregate-two-opt-moves-14
-slice-aggregate-two-opt-moves-14 c = search needs
-
 two-opt-moves-requires : tie.Need-two-opt-moves-requires
 two-opt-moves-requires c κs = search needs
 
@@ -65,9 +47,9 @@ slice-aggregate-tell c = search needs
 
 tell-requires : tie.Need-tell-requires
 tell-requires c κs =
-    let s = c .before .before .before .before .before .before .before .before .before .before .before .before .before .before .before .before .before .before .before .before .before .before .before .before .before .before .before .before .before .before .before .before .before in
+    let s = c .before .before .before .before .before .before .before .before .before .before .before .before .before .before .before .before .before .before .before .before .before in
     let a = s .args in
-    let r = c .before .before .before .before .before .before .before .before .before .before .before .before .before .before .before .before .two-opt-moves in
+    let r = c .before .before .before .before .before .before .before .before .before .before .two-opt-moves in
     let n = a .n in
     let pt = points (now (a .x)) (now (a .y)) in (
       (s .pre .1, omega (arith, s .pre .1, r .kept .1 .1 .1 .1 .0), s .pre .2),
@@ -82,11 +64,11 @@ same-length c = search needs
 
 returns : tie.Need-returns
 returns c =
-    let s = c .before .before .before .before .before .before .before .before .before .before .before .before .before .before .before .before .before .before .before .before .before .before .before .before .before .before .before .before .before .before .before .before .before .before .before .before in
+    let s = c .before .before .before .before .before .before .before .before .before .before .before .before .before .before .before .before .before .before .before .before .before .before .before .before in
     let a = s .args in
     let n = a .n in
     let pt = points (now (a .x)) (now (a .y)) in
-    let e = c .before .before .before .before .before .before .before .before .before .before .before .before .before .before .before .before .before .before .before .two-opt-moves .ensures .0 ∙ ap (λ t. call n pt t (upFrom 0 n) (now (a .picks))) (roomy n (now (a .x)) (now (a .y)) (s .pre .0) (s .pre .1)) in
+    let e = c .before .before .before .before .before .before .before .before .before .before .before .before .before .two-opt-moves .ensures .0 ∙ ap (λ t. call n pt t (upFrom 0 n) (now (a .picks))) (roomy n (now (a .x)) (now (a .y)) (s .pre .0) (s .pre .1)) in
     (subst (λ (t : Answer). Put (now (a .out)) 0 (told pt t) (c .before .before .tell .result) (c .before .before .tell .last .1 .1 .1 .1 .1 .0)) e (c .before .before .tell .ensures .0), c .before .before .tell .ensures .1)
 
 pub deliver-spec : {M : Type 1} → statement M
@@ -101,12 +83,6 @@ deliver-spec =
     slice-aggregate-two-opt-moves-6
     slice-aggregate-two-opt-moves-7
     slice-aggregate-two-opt-moves-8
-    slice-aggregate-two-opt-moves-9
-    slice-aggregate-two-opt-moves-10
-    slice-aggregate-two-opt-moves-11
-    slice-aggregate-two-opt-moves-12
-    slice-aggregate-two-opt-moves-13
-    slice-aggregate-two-opt-moves-14
     two-opt-moves-requires
     slice-aggregate-tell
     tell-requires

@@ -35,26 +35,8 @@ same-length-7 c = search needs
 same-length-8 : tie.Need-same-length-8
 same-length-8 c = search needs
 
-same-length-9 : tie.Need-same-length-9
-same-length-9 c = search needs
-
-same-length-10 : tie.Need-same-length-10
-same-length-10 c = search needs
-
-same-length-11 : tie.Need-same-length-11
-same-length-11 c = search needs
-
-same-length-12 : tie.Need-same-length-12
-same-length-12 c = search needs
-
-same-length-13 : tie.Need-same-length-13
-same-length-13 c = search needs
-
-same-length-14 : tie.Need-same-length-14
-same-length-14 c = search needs
-
 returns : tie.Need-returns
-returns c = (c .in-numbers .ensures _ ∙ ap inNumbers (c .before .before .before .before .before .before .before .before .before .before .before .before .before .before .before .before .before .before .before .before .before .before .before .before .before .before .before .before .before .two-opt-moves .ensures .0), c .before .before .before .before .before .before .before .before .before .before .before .before .before .before .before .before .before .before .before .before .before .before .before .before .before .before .before .before .before .two-opt-moves .ensures .1)
+returns c = (c .in-numbers .ensures _ ∙ ap inNumbers (c .before .before .before .before .before .before .before .before .before .before .before .before .before .before .before .before .before .two-opt-moves .ensures .0), c .before .before .before .before .before .before .before .before .before .before .before .before .before .before .before .before .before .two-opt-moves .ensures .1)
 
 pub tour-two-opt-moves-spec : {M : Type 1} → statement M
 tour-two-opt-moves-spec =
@@ -70,10 +52,4 @@ tour-two-opt-moves-spec =
     same-length-6
     same-length-7
     same-length-8
-    same-length-9
-    same-length-10
-    same-length-11
-    same-length-12
-    same-length-13
-    same-length-14
     returns)

@@ -58,9 +58,9 @@ returns c = let b = c .before .before .before .before .before .before .before .b
 
 returns-2 : tie.Need-returns-2
 returns-2 c = let b = c .before .before .before .before .before .before .before in (
-      λ s h may. no-push-holds (b .args .n) (pool b) s h (e b) (f b) (c .if1 .left),
-      beyond-self _ _,
-    )
+  λ s h may. no-push-holds (b .args .n) (pool b) s h (e b) (f b) (c .if1 .left),
+  beyond-self _ _,
+)
 
 pub push-if-spec : {M : Type 1} → statement M
 push-if-spec =

@@ -42,9 +42,9 @@ edge1-at-requires c κs = in-ends (now (c .before .before .before .before .befor
 
 returns : tie.Need-returns
 returns c = λ n p s h ev ed ec. (
-      c .before .edge0-at .ensures ∙ picked-first n p s h ev ed ec (c .before .before .before .before .before .before .args .pick) (c .before .before .before .before .before .before .pre .0),
-      c .edge1-at .ensures ∙ picked-second n p s h ev ed ec (c .before .before .before .before .before .before .args .pick) (c .before .before .before .before .before .before .pre .0),
-    )
+  c .before .edge0-at .ensures ∙ picked-first n p s h ev ed ec (c .before .before .before .before .before .before .args .pick) (c .before .before .before .before .before .before .pre .0),
+  c .edge1-at .ensures ∙ picked-second n p s h ev ed ec (c .before .before .before .before .before .before .args .pick) (c .before .before .before .before .before .before .pre .0),
+)
 
 pub random-spec : {M : Type 1} → statement M
 random-spec =

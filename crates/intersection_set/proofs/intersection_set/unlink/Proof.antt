@@ -26,11 +26,11 @@ returns : tie.Need-returns
 unfolding unlinkFrom
 returns c = let a = c .before .before .before .before .before .before .before .before .before .before .before .before .before .before .before .args in
     λ i.
-        record {
-          heads = c .before .before .before .before .before .before .before .before .before .before .set-head .ensures i;
-          next = (c .before .before .set-prev .ensures .1 ∙ c .before .before .before .before .before .before .set-next .ensures .0) i;
-          prev = (c .before .before .set-prev .ensures .0 ∙ ap (λ (x : Ends). setEnd (a .next .0) (edgeOf (a .e)) (a .prev .0) (edgesOf (now (a .ends)) .min0) (edgesOf (now (a .ends)) .max0) x) (c .before .before .before .before .before .before .set-next .ensures .1)) i;
-        }
+    record {
+      heads = c .before .before .before .before .before .before .before .before .before .before .set-head .ensures i;
+      next = (c .before .before .set-prev .ensures .1 ∙ c .before .before .before .before .before .before .set-next .ensures .0) i;
+      prev = (c .before .before .set-prev .ensures .0 ∙ ap (λ (x : Ends). setEnd (a .next .0) (edgeOf (a .e)) (a .prev .0) (edgesOf (now (a .ends)) .min0) (edgesOf (now (a .ends)) .max0) x) (c .before .before .before .before .before .before .set-next .ensures .1)) i;
+    }
 
 pub unlink-spec : {M : Type 1} → statement M
 unlink-spec =

@@ -7,10 +7,10 @@ use Rattle.replay.proofs.solve.write_records.Statement.{statement}
 use Rattle.replay.proofs.solve.write_records.Tie as tie
 
 abbrev Inv-loop : tie.InvT-loop
-Inv-loop left dense min0 max0 min1 max1 line₀ i₀ line i = (i ≤ length dense) × (length line ≡ length line₀)
+Inv-loop left dense ends line₀ i₀ line i = (i ≤ length dense) × (length line ≡ length line₀)
 
 abbrev μ-loop : tie.MeasureT-loop
-μ-loop left dense min0 max0 min1 max1 line₀ i₀ line i = length dense - i
+μ-loop left dense ends line₀ i₀ line i = length dense - i
 
 loop-holds : tie.Need-loop-holds Inv-loop μ-loop
 loop-holds c = search needs
