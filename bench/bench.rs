@@ -142,7 +142,7 @@ fn main() {
             println!("{make:8} {n:3} to {:3} {:6.1} {:6.1}", 2 * n, grown(l.theirs, twice.theirs), grown(l.ours, twice.ours));
         }
     }
-    println!("\nmemory of a call in bytes: lent (x, y, ring, index, twelve buffers of n*(n-1)), picks aside; stack");
+    println!("\nmemory of a call in bytes: lent (x, y, ring, index, six buffers of n*(n-1)), picks aside; stack");
     for n in [48, 256] {
         println!("n {n:3}: lent {:8} stack {:6}", n * 12 + 24 * n * (n - 1), stack_used(n));
     }

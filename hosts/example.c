@@ -5,13 +5,13 @@
 
 enum { N = 8, PAIRS = N * (N - 1) };
 
-static uint16_t ring[N + 1], index_of[N], work[12][PAIRS];
+static uint16_t ring[N + 1], index_of[N], work[4][PAIRS];
+static uint64_t words[2][PAIRS];
 
-/* One call with all buffers; `room` is the length that the twelve work buffers are lent with. */
+/* One call with all buffers; `room` is the length that the six work buffers are lent with. */
 static tour_answer call(int from_ring, size_t n, const int32_t *x, const int32_t *y, const uint32_t *picks, size_t picks_len, size_t room) {
     return (from_ring ? tour_resolve_self_intersections : tour_two_opt_moves)(n, x, N, y, N, picks, picks_len, ring, N, index_of, N,
-        work[0], room, work[1], room, work[2], room, work[3], room, work[4], room, work[5], room, work[6], room,
-        work[7], room, work[8], room, work[9], room, work[10], room, work[11], room);
+        work[0], room, words[0], room, words[1], room, work[1], room, work[2], room, work[3], room);
 }
 
 /* The answer, and for a loop or a state the ring and the records left. */
@@ -22,8 +22,8 @@ static void show(const char *title, size_t n, tour_answer a) {
     for (size_t i = 0; i < n; i++) printf(" %u", ring[i]);
     printf("\n");
     for (size_t i = 0; i < a.left; i++) {
-        unsigned s = work[9][i];
-        printf("  record %u-%u %u-%u\n", work[1][s], work[2][s], work[5][s], work[6][s]);
+        uint64_t w = words[0][work[1][i]];
+        printf("  record %u-%u %u-%u\n", TOUR_POINT(w, 0), TOUR_POINT(w, 1), TOUR_POINT(w, 2), TOUR_POINT(w, 3));
     }
 }
 
@@ -33,10 +33,10 @@ static void put_word(uint8_t *job, size_t *at, uint32_t w) {
 
 int main(void) {
     /* the job of four points in micrometres and one pick */
-    static const uint32_t words[] = {4, 20, 1, 52, 56, 0, 0, 100, 100, 100, 0, 0, 100, 7};
+    static const uint32_t job_words[] = {4, 20, 1, 52, 56, 0, 0, 100, 100, 100, 0, 0, 100, 7};
     uint8_t job[56];
     size_t at = 0;
-    for (size_t i = 0; i < sizeof words / sizeof *words; i++) put_word(job, &at, words[i]);
+    for (size_t i = 0; i < sizeof job_words / sizeof *job_words; i++) put_word(job, &at, job_words[i]);
     int32_t x[N] = {0}, y[N] = {0};
     uint32_t picks[4091];
     tour_job read = tour_read_job(job, at, x, N, y, N, picks, 4091);
@@ -45,6 +45,7 @@ int main(void) {
     printf("job, short buffer: code %u\n", (unsigned)tour_read_job(job, at, x, 3, y, N, picks, 4091).code);
 
     memset(work, 0xa5, sizeof work);
+    memset(words, 0xa5, sizeof words);
     ring[N] = 4711;
     show("loop", read.points, call(0, read.points, x, y, picks, read.picks, PAIRS));
     show("no picks", read.points, call(0, read.points, x, y, NULL, 0, PAIRS));

@@ -30,17 +30,18 @@ typedef struct {
 
 /* The entries of n points. They need
  *    x, y, ring, index           n elements each
- *    heads .. release (twelve)   n * (n - 1) elements each, none for n = 0
+ *    heads .. release (six)      n * (n - 1) elements each, none for n = 0
  * and never touch an element past those. picks may have any length. Work buffers may hold anything at first; ring too, but in
  * tour_resolve_self_intersections, which starts from it. x, y and picks are only read.
  * Code 0: ring[0 .. n-1] is the loop, counter-clockwise, and index is its inverse.
- * Code 8: for i < left the slot s = dense[i] has the record of the edges min0[s]-max0[s] and min1[s]-max1[s]. */
+ * Code 8: for i < left the slot s = dense[i] has the record of two edges, whose four point numbers are the four 16-bit parts of
+ * ends[s], the lowest first: TOUR_POINT(ends[s], 0) - TOUR_POINT(ends[s], 1) and TOUR_POINT(ends[s], 2) - TOUR_POINT(ends[s], 3). */
+#define TOUR_POINT(word, k) ((uint16_t)((word) >> 16 * (k)))
+
 #define TOUR_WORK \
     size_t n, const int32_t *x, size_t x_len, const int32_t *y, size_t y_len, const uint32_t *picks, size_t picks_len, \
     uint16_t *ring, size_t ring_len, uint16_t *index, size_t index_len, uint16_t *heads, size_t heads_len, \
-    uint16_t *min0, size_t min0_len, uint16_t *max0, size_t max0_len, uint16_t *next0, size_t next0_len, \
-    uint16_t *prev0, size_t prev0_len, uint16_t *min1, size_t min1_len, uint16_t *max1, size_t max1_len, \
-    uint16_t *next1, size_t next1_len, uint16_t *prev1, size_t prev1_len, uint16_t *dense, size_t dense_len, \
+    uint64_t *ends, size_t ends_len, uint64_t *links, size_t links_len, uint16_t *dense, size_t dense_len, \
     uint16_t *reverse, size_t reverse_len, uint16_t *release, size_t release_len
 
 /* A loop through the points, starting in their own order 0, 1, 2, .. */

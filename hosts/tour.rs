@@ -24,9 +24,7 @@ mod raw {
             unsafe extern "C" {
                 $(pub fn $entry(n: usize, x: *const i32, x_len: usize, y: *const i32, y_len: usize, picks: *const u32, picks_len: usize,
                     ring: *mut u16, ring_len: usize, index: *mut u16, index_len: usize, heads: *mut u16, heads_len: usize,
-                    min0: *mut u16, min0_len: usize, max0: *mut u16, max0_len: usize, next0: *mut u16, next0_len: usize,
-                    prev0: *mut u16, prev0_len: usize, min1: *mut u16, min1_len: usize, max1: *mut u16, max1_len: usize,
-                    next1: *mut u16, next1_len: usize, prev1: *mut u16, prev1_len: usize, dense: *mut u16, dense_len: usize,
+                    ends: *mut u64, ends_len: usize, links: *mut u64, links_len: usize, dense: *mut u16, dense_len: usize,
                     reverse: *mut u16, reverse_len: usize, free: *mut u16, free_len: usize) -> Answer;)*
                 pub safe fn tour_meets(a1x: i32, a1y: i32, a2x: i32, a2y: i32, b1x: i32, b1y: i32, b2x: i32, b2y: i32) -> u32;
                 pub fn tour_read_job(job: *const u8, job_len: usize, x: *mut i32, x_len: usize, y: *mut i32, y_len: usize,
@@ -52,34 +50,38 @@ pub enum Answer {
 pub struct Buffers {
     pub ring: Vec<u16>,
     pub index: Vec<u16>,
-    work: [Vec<u16>; 12],
+    ends: Vec<u64>,
+    links: Vec<u64>,
+    heads: Vec<u16>,
+    dense: Vec<u16>,
+    reverse: Vec<u16>,
+    free: Vec<u16>,
 }
 
 impl Buffers {
     /// Buffers that n points need.
     pub fn new(n: usize) -> Buffers {
         let pairs = n * n.saturating_sub(1);
-        Buffers { ring: vec![0; n], index: vec![0; n], work: std::array::from_fn(|_| vec![0; pairs]) }
+        let [heads, dense, reverse, free] = std::array::from_fn(|_| vec![0; pairs]);
+        Buffers { ring: vec![0; n], index: vec![0; n], ends: vec![0; pairs], links: vec![0; pairs], heads, dense, reverse, free }
     }
 
     /// The edges of the first records in dense order; after `Stopped { left, .. }` the first `left` are those left.
     pub fn records(&self, left: usize) -> impl Iterator<Item = [u16; 4]> + '_ {
-        let [_, min0, max0, _, _, min1, max1, _, _, dense, _, _] = &self.work;
-        dense.iter().take(left).map(|&s| s as usize).map(|s| [min0[s], max0[s], min1[s], max1[s]])
+        self.dense.iter().take(left).map(|&s| self.ends[s as usize]).map(|w| std::array::from_fn(|k| (w >> (16 * k)) as u16))
     }
 }
 
 macro_rules! call {
     ($entry:ident, $n:expr, $x:expr, $y:expr, $picks:expr, $lent:expr) => {{
         let (x, y, picks): (&[i32], &[i32], &[u32]) = ($x, $y, $picks);
-        let Buffers { ring, index, work: [a, b, c, d, e, f, g, h, i, j, k, l] } = $lent;
+        let Buffers { ring, index, ends, links, heads, dense, reverse, free } = $lent;
         // SAFETY: every pointer and length is of a live slice, and the borrow checker keeps the `&mut` ones apart.
         let answer = unsafe {
             raw::$entry($n, x.as_ptr(), x.len(), y.as_ptr(), y.len(), picks.as_ptr(), picks.len(), ring.as_mut_ptr(), ring.len(),
-                index.as_mut_ptr(), index.len(), a.as_mut_ptr(), a.len(), b.as_mut_ptr(), b.len(), c.as_mut_ptr(), c.len(),
-                d.as_mut_ptr(), d.len(), e.as_mut_ptr(), e.len(), f.as_mut_ptr(), f.len(), g.as_mut_ptr(), g.len(),
-                h.as_mut_ptr(), h.len(), i.as_mut_ptr(), i.len(), j.as_mut_ptr(), j.len(), k.as_mut_ptr(), k.len(),
-                l.as_mut_ptr(), l.len())
+                index.as_mut_ptr(), index.len(), heads.as_mut_ptr(), heads.len(), ends.as_mut_ptr(), ends.len(),
+                links.as_mut_ptr(), links.len(), dense.as_mut_ptr(), dense.len(), reverse.as_mut_ptr(), reverse.len(),
+                free.as_mut_ptr(), free.len())
         };
         match answer.code {
             0 => Answer::Delivered { moves: answer.moves, cross: answer.cross },
