@@ -18,7 +18,7 @@ use Rattle.intersection_set.specs.Store.{Rec, Store, noRec, swapRemove, 
 use Rattle.intersection_set.specs.Numbered.{Numbered}
 use Rattle.intersection_set.specs.Lists.{none, slotOf, listOf, slotsOf, nextOf, prevOf}
 use Rattle.intersection_set.specs.Pool as pool
-use Rattle.intersection_set.specs.Pool.{Edges, Ends, Pool, end0, end1}
+use Rattle.intersection_set.specs.Pool.{Ends, noEnds, Pair, Pool, end0, end1}
 use Rattle.intersection_set.specs.Within.{Good}
 use Rattle.intersection_set.specs.Holds.{Each, Sound, HeldIn, Stack, Placed, Stored, Holds}
 use Rattle.intersection_set.proofs.Slots.{slot-below, swapRemove-length}
@@ -73,12 +73,12 @@ named-valid n g r h d = record { apart = differ d; one-of = λ u. eqE-true g (r 
     second true u h = absurd (true≢false u)
     second false u h = h
 
-pub record Near (n : ℕ) (v : Edges) (g : Edge) (y : ℕ) : Type 0 where
+pub record Near (n : ℕ) (v : List Pair) (g : Edge) (y : ℕ) : Type 0 where
   pub below : y < n * (n - 1)
   pub valid : At v g y
 
-pub reach : {n : ℕ} {v : Edges} {g : Edge} {y : ℕ} (x : Ends) → n * (n - 1) ≤ length (x .x0) → n * (n - 1) ≤ length (x .x1) → Near n v g y → Reach v x g y
-reach x h0 h1 r = record { in-0 = lt-of-lt-of-le (r .below) h0; in-1 = lt-of-lt-of-le (r .below) h1; valid = r .valid }
+pub reach : {n : ℕ} {v : List Pair} {g : Edge} {y : ℕ} (x : List Ends) → n * (n - 1) ≤ length x → Near n v g y → Reach v x g y
+reach x h r = record { inside = lt-of-lt-of-le (r .below) h; valid = r .valid }
 
 -- the dense place of the record at a slot, and that it names g
 abbrev pub LiveAt : List Rec → Edge → ℕ → Type 0
@@ -93,7 +93,7 @@ live-at d l g same y h =
 pub chain-live : (d : List Rec) (k : Links) (g : Edge) (c : Chain none d k g) (y : ℕ) → In y (map slotOf (c .recs)) → LiveAt d g y
 chain-live d k g c y h = live-at d (c .recs) g (c .same) y h
 
-module _ (n : ℕ) (v : Edges) (s : Store) (numbered : Numbered s) (room : grown s ≤ n * (n - 1)) (sound : Each (Sound n) (s .dense)) (held : Each (HeldIn v) (s .dense)) (k : Links) (g : Edge) (c : Chain none (s .dense) k g) where
+module _ (n : ℕ) (v : List Pair) (s : Store) (numbered : Numbered s) (room : grown s ≤ n * (n - 1)) (sound : Each (Sound n) (s .dense)) (held : Each (HeldIn v) (s .dense)) (k : Links) (g : Edge) (c : Chain none (s .dense) k g) where
   pub near-in : (y : ℕ) → In y (map slotOf (c .recs)) → Near n v g y
   near-in y u =
       let z : LiveAt (s .dense) g y = chain-live (s .dense) k g c y u in
@@ -121,7 +121,7 @@ module _ (n : ℕ) (v : Edges) (s : Store) (numbered : Numbered s) (room : grown
         (rw (places .2) (next-in none (k .next g) (k .prev g) (map slotOf (places .0)) (getD (s .dense) j noRec .slot) (map slotOf (places .1)) none (k .head g) (rw (places .2) at (c .linked)) u))
 
 -- links that are read alike hold the same lists
-pub rep-same : (n : ℕ) (v : Edges) (s : Store) (k k' : Links) → Numbered s → grown s ≤ n * (n - 1) → Each (Sound n) (s .dense) → Each (HeldIn v) (s .dense) → Same (Placed n) (At v) k' k
+pub rep-same : (n : ℕ) (v : List Pair) (s : Store) (k k' : Links) → Numbered s → grown s ≤ n * (n - 1) → Each (Sound n) (s .dense) → Each (HeldIn v) (s .dense) → Same (Placed n) (At v) k' k
     → Rep none (Placed n) s k → Rep none (Placed n) s k'
 rep-same n v s k k' numbered room sound held same rep g pg =
     let c : Chain none (s .dense) k g = rep g pg in
@@ -130,13 +130,13 @@ rep-same n v s k k' numbered room sound held same rep g pg =
     (λ y u. same .prevs g y (near-in n v s numbered room sound held k g c y u .valid))
 
 -- ---- a record's links, read along its two edges
-module _ (n : ℕ) (v : Edges) (r : Rec) (sound : Sound n r) (held : HeldIn v r) (x : Ends) where
-  pub along-first : linkAt v x (r .e0) (r .slot) ≡ getD (x .x0) (r .slot) 0
-  along-first = ap (λ (b : Bool). cond b (getD (x .x0) (r .slot) 0) (getD (x .x1) (r .slot) 0)) (ap (eqE (r .e0)) (held .0) ∙ eqE-refl (r .e0))
+module _ (n : ℕ) (v : List Pair) (r : Rec) (sound : Sound n r) (held : HeldIn v r) (x : List Ends) where
+  pub along-first : linkAt v x (r .e0) (r .slot) ≡ getD x (r .slot) noEnds .x0
+  along-first = ap (λ (b : Bool). cond b (getD x (r .slot) noEnds .x0) (getD x (r .slot) noEnds .x1)) (ap (eqE (r .e0)) (held .0) ∙ eqE-refl (r .e0))
 
-  pub along-second : linkAt v x (r .e1) (r .slot) ≡ getD (x .x1) (r .slot) 0
+  pub along-second : linkAt v x (r .e1) (r .slot) ≡ getD x (r .slot) noEnds .x1
   along-second =
-      ap (λ (b : Bool). cond b (getD (x .x0) (r .slot) 0) (getD (x .x1) (r .slot) 0)) (ap (eqE (r .e1)) (held .0) ∙ eqE-sym (r .e1) (r .e0) ∙ differ sound)
+      ap (λ (b : Bool). cond b (getD x (r .slot) noEnds .x0) (getD x (r .slot) noEnds .x1)) (ap (eqE (r .e1)) (held .0) ∙ eqE-sym (r .e1) (r .e0) ∙ differ sound)
 
 -- ---- linked lists by equation
 abbrev pub lists : ℕ → Pool → Store → Type 0
@@ -166,8 +166,8 @@ slot-in-list s e j i named =
 
 module _ (n : ℕ) (p : Pool) (s : Store) where
   -- what a link field has is what is read along each edge that its record names
-  read-along : (x : Ends) (of : Edge → ℕ → ℕ)
-      → ((j : ℕ) → j < length (s .dense) → (getD (x .x0) (getD (s .dense) j noRec .slot) 0 ≡ of (getD (s .dense) j noRec .e0) (getD (s .dense) j noRec .slot)) × (getD (x .x1) (getD (s .dense) j noRec .slot) 0 ≡ of (getD (s .dense) j noRec .e1) (getD (s .dense) j noRec .slot)))
+  read-along : (x : List Ends) (of : Edge → ℕ → ℕ)
+      → ((j : ℕ) → j < length (s .dense) → (getD x (getD (s .dense) j noRec .slot) noEnds .x0 ≡ of (getD (s .dense) j noRec .e0) (getD (s .dense) j noRec .slot)) × (getD x (getD (s .dense) j noRec .slot) noEnds .x1 ≡ of (getD (s .dense) j noRec .e1) (getD (s .dense) j noRec .slot)))
       → Each (Sound n) (s .dense) → Each (HeldIn (p .edges)) (s .dense) → (e : Edge) (y : ℕ) → LiveAt (s .dense) e y → linkAt (p .edges) x e y ≡ of e y
   read-along x of f sound held e y z =
       let r : Rec = getD (s .dense) (z .0) noRec in

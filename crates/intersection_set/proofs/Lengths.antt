@@ -1,5 +1,5 @@
 -- What the steps of the pool leave as it was: the lengths of its lists; and that a step stays inside them.
-use mathlib.Core.Path.{_≡_, refl, _∙_}
+use mathlib.Core.Path.{_≡_, refl, sym, ap, _∙_}
 use mathlib.Core.Logic.{_≢_}
 use mathlib.Core.List.{List}
 use mathlib.Core.Bool.{Bool, true, false, cond}
@@ -14,7 +14,7 @@ use Rattle.algebra.specs.Cases.{both, eq-cases}
 use Rattle.index_edge.specs.Edge.{Edge, eqE}
 use Rattle.index_edge.proofs.Edges.{eqE-refl, eqE-sym}
 use Rattle.intersection_set.specs.Lists.{none, headPlace}
-use Rattle.intersection_set.specs.Pool.{Ends, ends, Edges, Links, Order, Pool, Buffers, countsOf, takeSlot, densePush, denseRemove, edgeAt, end0, end1, setEnd, headAt, linkFront, setHead, unlinkFrom, putEdges, putEnds, clearEnds, poolPush, poolRemove, poolRemoveAll}
+use Rattle.intersection_set.specs.Pool.{Ends, ends, noEnds, Pair, pair, noPair, Links, Order, Pool, Buffers, countsOf, takeSlot, densePush, denseRemove, end0, end1, putEnd, setEnd, headAt, linkFront, setHead, unlinkFrom, putEdges, putEnds, clearEnds, poolPush, poolRemove, poolRemoveAll}
 use Rattle.intersection_set.specs.Within.{Proper, TakeOk, AppendOk, EndOk, HeadOk, UnlinkOk, Sized, Good, PushOk, RemoveOk, Drained}
 use Rattle.intersection_set.specs.declared.utils.Counts.{Counts}
 use Rattle.intersection_set.specs.declared.utils.Taken.{Taken}
@@ -48,19 +48,13 @@ take-ok n p g =
     }
 
 -- ---- lengths
-len-end : (b d : Bool) (s v : ℕ) (x : Ends) → (length ((cond b x (cond d (ends (set (x .x0) s v) (x .x1)) (ends (x .x0) (set (x .x1) s v)))) .x0) ≡ length (x .x0))
-    × (length ((cond b x (cond d (ends (set (x .x0) s v) (x .x1)) (ends (x .x0) (set (x .x1) s v)))) .x1) ≡ length (x .x1))
-len-end true d s v x = (refl, refl)
-len-end false true s v x = (length-set (x .x0) s v, refl)
-len-end false false s v x = (refl, length-set (x .x1) s v)
-
-pub len-x0 : (s : ℕ) (e : Edge) (v : ℕ) (min0 max0 : List ℕ) (x : Ends) → length (setEnd s e v min0 max0 x .x0) ≡ length (x .x0)
+pub len-ends : (s : ℕ) (e : Edge) (v : ℕ) (w : List Pair) (x : List Ends) → length (setEnd s e v w x) ≡ length x
 unfolding setEnd
-len-x0 s e v min0 max0 x = len-end (eqb s none) (eqE e (edgeAt min0 max0 s)) s v x .0
-
-pub len-x1 : (s : ℕ) (e : Edge) (v : ℕ) (min0 max0 : List ℕ) (x : Ends) → length (setEnd s e v min0 max0 x .x1) ≡ length (x .x1)
-unfolding setEnd
-len-x1 s e v min0 max0 x = len-end (eqb s none) (eqE e (edgeAt min0 max0 s)) s v x .1
+len-ends s e v w x = go (eqb s none)
+  where
+    go : (b : Bool) → length (cond b x (set x s (putEnd (eqE e (end0 w s)) v (getD x s noEnds)))) ≡ length x
+    go true = refl
+    go false = length-set x s (putEnd (eqE e (end0 w s)) v (getD x s noEnds))
 
 pub len-head : (n : ℕ) (e : Edge) (x v : ℕ) (hs : List ℕ) → length (setHead n e x v hs) ≡ length hs
 unfolding setHead
@@ -70,9 +64,8 @@ len-head n e x v hs = go (eqb v none)
     go true = length-set hs (headPlace n e) x
     go false = refl
 
-pub end-ok : {min0 max0 : List ℕ} {x : Ends} (s cap : ℕ) → (s ≢ none → s < cap) → cap ≤ length min0 → cap ≤ length max0 → cap ≤ length (x .x0) → cap ≤ length (x .x1) → EndOk s min0 max0 x
-end-ok s cap h p q r t =
-    record { in-min0 = λ z. lt-of-lt-of-le (h z) p; in-max0 = λ z. lt-of-lt-of-le (h z) q; in-x0 = λ z. lt-of-lt-of-le (h z) r; in-x1 = λ z. lt-of-lt-of-le (h z) t }
+pub end-ok : {w : List Pair} {x : List Ends} (s cap : ℕ) → (s ≢ none → s < cap) → cap ≤ length w → cap ≤ length x → EndOk s w x
+end-ok s cap h p q = record { in-edges = λ z. lt-of-lt-of-le (h z) p; in-ends = λ z. lt-of-lt-of-le (h z) q }
 
 pub head-ok : {n : ℕ} {e : Edge} {heads : List ℕ} → n ≤ 256 → Proper n e → n * (n - 1) ≤ length heads → HeadOk n e heads
 head-ok {n} {e} small ok long = record { small = small; edge = ok; place = lt-of-lt-of-le (place-lt n e ok) long }
@@ -90,11 +83,11 @@ module _ (n : ℕ) (e0 e1 : Edge) (p : Pool) (s : ℕ) (ok : PushOk n e0 e1 p) (
       let k = cap-small (ok .good .small) in
       record { fits = omega (arith, ok .room); in-dense = lt-of-lt-of-le (ok .room) (ok .good .sizes .in-dense); in-reverse = lt-of-lt-of-le hs (ok .good .sizes .in-reverse) }
 
-  pub edges-ok : s < length (p .edges .min0)
-  edges-ok = lt-of-lt-of-le hs (ok .good .sizes .in-min0)
+  pub edges-ok : s < length (p .edges)
+  edges-ok = lt-of-lt-of-le hs (ok .good .sizes .in-edges)
 
-  pub links-ok : s < length (p .links .next .x0)
-  links-ok = lt-of-lt-of-le hs (ok .good .sizes .in-next0)
+  pub links-ok : s < length (p .links .next)
+  links-ok = lt-of-lt-of-le hs (ok .good .sizes .in-next)
 
   pub head-ok-1 : HeadOk n e0 (p .links .heads)
   head-ok-1 = head-ok (ok .good .small) (ok .edge0) (ok .good .sizes .in-heads)
@@ -103,88 +96,78 @@ module _ (n : ℕ) (e0 e1 : Edge) (p : Pool) (s : ℕ) (ok : PushOk n e0 e1 p) (
   head-ok-2 eh = rw eh (head-ok (ok .good .small) (ok .edge1) (simp length-set (ok .good .sizes .in-heads)))
 
   -- the old head of the first list may be linked
-  old-written : EndOk (headAt n e0 (p .links .heads)) (putEdges s e0 e1 (p .edges) .min0) (putEdges s e0 e1 (p .edges) .max0) (clearEnds s (p .links .prev))
+  old-written : EndOk (headAt n e0 (p .links .heads)) (putEdges s e0 e1 (p .edges)) (clearEnds s (p .links .prev))
   unfolding putEdges clearEnds
   old-written =
       let g = ok .good in
       let z = g .sizes in
-      end-ok _ (n * (n - 1)) (g .head e0 (ok .edge0)) (simp length-set (z .in-min0)) (simp length-set (z .in-max0)) (simp length-set (z .in-prev0)) (simp length-set (z .in-prev1))
+      end-ok _ (n * (n - 1)) (g .head e0 (ok .edge0)) (simp length-set (z .in-edges)) (simp length-set (z .in-prev))
 
   -- and then that of the second
-  old-linked : EndOk (headAt n e1 (set (p .links .heads) (headPlace n e0) s)) (putEdges s e0 e1 (p .edges) .min0) (putEdges s e0 e1 (p .edges) .max0)
-      (setEnd (headAt n e0 (p .links .heads)) e0 s (putEdges s e0 e1 (p .edges) .min0) (putEdges s e0 e1 (p .edges) .max0) (clearEnds s (p .links .prev)))
+  old-linked : EndOk (headAt n e1 (set (p .links .heads) (headPlace n e0) s)) (putEdges s e0 e1 (p .edges))
+      (setEnd (headAt n e0 (p .links .heads)) e0 s (putEdges s e0 e1 (p .edges)) (clearEnds s (p .links .prev)))
   unfolding putEdges clearEnds
   old-linked =
       let g = ok .good in
       let z = g .sizes in
       let h0 = lt-of-lt-of-le (place-lt n e0 (ok .edge0)) (z .in-heads) in
-      end-ok _ (n * (n - 1)) (head-set (p .links .heads) (headPlace n e0) (headPlace n e1) s (n * (n - 1)) h0 hs (g .head e1 (ok .edge1))) (simp length-set (z .in-min0)) (simp length-set (z .in-max0))
-      (simp (len-x0, length-set) (z .in-prev0)) (simp (len-x1, length-set) (z .in-prev1))
+      end-ok _ (n * (n - 1)) (head-set (p .links .heads) (headPlace n e0) (headPlace n e1) s (n * (n - 1)) h0 hs (g .head e1 (ok .edge1))) (simp length-set (z .in-edges)) (simp (len-ends, length-set) (z .in-prev))
 
   -- the same of what the code's steps leave
-  module _ {v : Edges} {y : Ends} {m0 : ℕ} (ev : v ≡ putEdges s e0 e1 (p .edges)) (ey : y ≡ clearEnds s (p .links .prev)) (e0h : m0 ≡ headAt n e0 (p .links .heads)) where
-    pub old-ok : EndOk m0 (v .min0) (v .max0) y
+  module _ {v : List Pair} {y : List Ends} {m0 : ℕ} (ev : v ≡ putEdges s e0 e1 (p .edges)) (ey : y ≡ clearEnds s (p .links .prev)) (e0h : m0 ≡ headAt n e0 (p .links .heads)) where
+    pub old-ok : EndOk m0 v y
     old-ok = rw (e0h, ev, ey) old-written
 
-    pub old-ok-2 : {h : List ℕ} {z : Ends} {m1 : ℕ} → h ≡ set (p .links .heads) (headPlace n e0) s → m1 ≡ headAt n e1 h → z ≡ setEnd m0 e0 s (v .min0) (v .max0) y → EndOk m1 (v .min0) (v .max0) z
+    pub old-ok-2 : {h : List ℕ} {z : List Ends} {m1 : ℕ} → h ≡ set (p .links .heads) (headPlace n e0) s → m1 ≡ headAt n e1 h → z ≡ setEnd m0 e0 s v y → EndOk m1 v z
     old-ok-2 eh e1h ez = rw (e1h, eh, ez, e0h, ev, ey) old-linked
 
   slot-some : s ≢ none
   slot-some q = omega (arith, hs, q, cap-small (ok .good .small))
 
   -- The new record's first edge is its end 0, the other its end 1: the code need not read back which end is meant.
-  ends-first : (w : ℕ) (x : Ends) → setEnd s e0 w (putEdges s e0 e1 (p .edges) .min0) (putEdges s e0 e1 (p .edges) .max0) x ≡ ends (set (x .x0) s w) (x .x1)
-  unfolding setEnd putEdges
-  ends-first w x =
-      let z = ok .good .sizes in
-      rw (ne-eqb s none slot-some, getD-set-same (p .edges .min0) s (e0 .lo) 0 (lt-of-lt-of-le hs (z .in-min0)), getD-set-same (p .edges .max0) s (e0 .hi) 0 (lt-of-lt-of-le hs (z .in-max0)), eqE-refl e0)
+  at-slot : end0 (set (p .edges) s (pair e0 e1)) s ≡ e0
+  at-slot = ap (λ (k : Pair). k .e0) (getD-set-same (p .edges) s (pair e0 e1) noPair edges-ok)
 
-  ends-second : (w : ℕ) (x : Ends) → setEnd s e1 w (putEdges s e0 e1 (p .edges) .min0) (putEdges s e0 e1 (p .edges) .max0) x ≡ ends (x .x0) (set (x .x1) s w)
+  ends-first : (v : ℕ) (x : List Ends) → setEnd s e0 v (putEdges s e0 e1 (p .edges)) x ≡ set x s (ends v (getD x s noEnds .x1))
   unfolding setEnd putEdges
-  ends-second w x =
-      let z = ok .good .sizes in
-      let d : eqE e1 e0 ≡ false = eqE-sym e1 e0 ∙ ok .differ in
-      rw (ne-eqb s none slot-some, getD-set-same (p .edges .min0) s (e0 .lo) 0 (lt-of-lt-of-le hs (z .in-min0)), getD-set-same (p .edges .max0) s (e0 .hi) 0 (lt-of-lt-of-le hs (z .in-max0)), d)
+  ends-first v x = rw (ne-eqb s none slot-some, at-slot, eqE-refl e0)
 
-  -- Its `next` in each end is written once: clearing it before changes nothing.
-  pub next-once : (h0 h1 : ℕ) → putEnds s h0 h1 (p .links .next)
-      ≡ setEnd s e1 h1 (putEdges s e0 e1 (p .edges) .min0) (putEdges s e0 e1 (p .edges) .max0)
-      (setEnd s e0 h0 (putEdges s e0 e1 (p .edges) .min0) (putEdges s e0 e1 (p .edges) .max0) (clearEnds s (p .links .next)))
+  ends-second : (v : ℕ) (x : List Ends) → setEnd s e1 v (putEdges s e0 e1 (p .edges)) x ≡ set x s (ends (getD x s noEnds .x0) v)
+  unfolding setEnd putEdges
+  ends-second v x = let d : eqE e1 e0 ≡ false = eqE-sym e1 e0 ∙ ok .differ in rw (ne-eqb s none slot-some, at-slot, d)
+
+  -- Its `next` is written once: clearing it before changes nothing.
+  pub next-once : (h0 h1 : ℕ) → putEnds s h0 h1 (p .links .next) ≡ setEnd s e1 h1 (putEdges s e0 e1 (p .edges)) (setEnd s e0 h0 (putEdges s e0 e1 (p .edges)) (clearEnds s (p .links .next)))
   unfolding clearEnds putEnds
   next-once h0 h1 =
-      rw (ends-first h0 (clearEnds s (p .links .next)), ends-second h1 (ends (set (set (p .links .next .x0) s none) s h0) (set (p .links .next .x1) s none)), set-set (p .links .next .x0) s none h0, set-set (p .links .next .x1) s none h1)
+      let x = p .links .next in
+      let y = set x s (ends none none) in
+      let z = set y s (ends h0 (getD y s noEnds .x1)) in
+      let iy : s < length y = simp length-set links-ok in
+      let q : getD z s noEnds .x0 ≡ h0 = ap (λ (k : Ends). k .x0) (getD-set-same y s (ends h0 (getD y s noEnds .x1)) noEnds iy) in
+      sym (ap (setEnd s e1 h1 (putEdges s e0 e1 (p .edges))) (ends-first h0 y) ∙ ends-second h1 z ∙ ap (λ (k : ℕ). set z s (ends k h1)) q ∙ set-set y s _ (ends h0 h1) ∙ set-set x s (ends none none) (ends h0 h1))
 
 -- ---- two pools whose lists are as long as each other
 pub record SameSize (p q : Pool) : Type 0 where
   pub heads : length (p .links .heads) ≡ length (q .links .heads)
-  pub next0 : length (p .links .next .x0) ≡ length (q .links .next .x0)
-  pub prev0 : length (p .links .prev .x0) ≡ length (q .links .prev .x0)
-  pub next1 : length (p .links .next .x1) ≡ length (q .links .next .x1)
-  pub prev1 : length (p .links .prev .x1) ≡ length (q .links .prev .x1)
-  pub min0 : length (p .edges .min0) ≡ length (q .edges .min0)
-  pub max0 : length (p .edges .max0) ≡ length (q .edges .max0)
-  pub min1 : length (p .edges .min1) ≡ length (q .edges .min1)
-  pub max1 : length (p .edges .max1) ≡ length (q .edges .max1)
+  pub next : length (p .links .next) ≡ length (q .links .next)
+  pub prev : length (p .links .prev) ≡ length (q .links .prev)
+  pub edges : length (p .edges) ≡ length (q .edges)
   pub dense : length (p .order .dense) ≡ length (q .order .dense)
   pub reverse : length (p .order .reverse) ≡ length (q .order .reverse)
   pub free : length (p .free) ≡ length (q .free)
 
 pub same-self : (p : Pool) → SameSize p p
 same-self p =
-    record { heads = refl; next0 = refl; prev0 = refl; next1 = refl; prev1 = refl; min0 = refl; max0 = refl; min1 = refl; max1 = refl; dense = refl; reverse = refl; free = refl }
+    record { heads = refl; next = refl; prev = refl; edges = refl; dense = refl; reverse = refl; free = refl }
 
 pub same-trans : {p q r : Pool} → SameSize p q → SameSize q r → SameSize p r
 same-trans s t =
     record {
       heads = s .heads ∙ t .heads;
-      next0 = s .next0 ∙ t .next0;
-      prev0 = s .prev0 ∙ t .prev0;
-      next1 = s .next1 ∙ t .next1;
-      prev1 = s .prev1 ∙ t .prev1;
-      min0 = s .min0 ∙ t .min0;
-      max0 = s .max0 ∙ t .max0;
-      min1 = s .min1 ∙ t .min1;
-      max1 = s .max1 ∙ t .max1;
+      next = s .next ∙ t .next;
+      prev = s .prev ∙ t .prev;
+      edges = s .edges ∙ t .edges;
       dense = s .dense ∙ t .dense;
       reverse = s .reverse ∙ t .reverse;
       free = s .free ∙ t .free;
@@ -194,14 +177,9 @@ pub sized-same : {n : ℕ} {p q : Pool} → SameSize q p → Sized n p → Sized
 sized-same z g =
     record {
       in-heads = rw (z .heads) (g .in-heads);
-      in-next0 = rw (z .next0) (g .in-next0);
-      in-prev0 = rw (z .prev0) (g .in-prev0);
-      in-next1 = rw (z .next1) (g .in-next1);
-      in-prev1 = rw (z .prev1) (g .in-prev1);
-      in-min0 = rw (z .min0) (g .in-min0);
-      in-max0 = rw (z .max0) (g .in-max0);
-      in-min1 = rw (z .min1) (g .in-min1);
-      in-max1 = rw (z .max1) (g .in-max1);
+      in-next = rw (z .next) (g .in-next);
+      in-prev = rw (z .prev) (g .in-prev);
+      in-edges = rw (z .edges) (g .in-edges);
       in-dense = rw (z .dense) (g .in-dense);
       in-reverse = rw (z .reverse) (g .in-reverse);
       in-free = rw (z .free) (g .in-free);
@@ -224,14 +202,9 @@ unfolding poolPush linkFront putEdges clearEnds densePush
 sizes-push n e0 e1 p =
     record {
       heads = simp length-set;
-      next0 = simp (len-x0, length-set);
-      prev0 = simp (len-x0, length-set);
-      next1 = simp (len-x1, length-set);
-      prev1 = simp (len-x1, length-set);
-      min0 = simp length-set;
-      max0 = simp length-set;
-      min1 = simp length-set;
-      max1 = simp length-set;
+      next = simp (len-ends, length-set);
+      prev = simp (len-ends, length-set);
+      edges = simp length-set;
       dense = simp length-set;
       reverse = simp length-set;
       free = refl;
@@ -242,14 +215,9 @@ unfolding poolRemove unlinkFrom denseRemove
 sizes-remove n s p =
     record {
       heads = simp len-head;
-      next0 = simp len-x0;
-      prev0 = simp len-x0;
-      next1 = simp len-x1;
-      prev1 = simp len-x1;
-      min0 = refl;
-      max0 = refl;
-      min1 = refl;
-      max1 = refl;
+      next = simp len-ends;
+      prev = simp len-ends;
+      edges = refl;
       dense = simp length-set;
       reverse = simp length-set;
       free = length-set (p .free) (p .counts .freed) s;
@@ -257,14 +225,14 @@ sizes-remove n s p =
 
 -- ---- the steps of the code, put together
 module _ (n : ℕ) (e0 e1 : Edge) (p : Pool) (ok : PushOk n e0 e1 p) where
-  pub push-steps : {t : Taken} {o : Order} {v : Edges} {h1 h2 : List ℕ} {m0 m1 : ℕ} {x0 x1 x2 y0 y1 y2 : Ends}
+  pub push-steps : {t : Taken} {o : Order} {v : List Pair} {h1 h2 : List ℕ} {m0 m1 : ℕ} {x0 x1 x2 y0 y1 y2 : List Ends}
       → t ≡ takeSlot (p .counts) (p .free)
       → o ≡ densePush (t .slot .0) (p .counts .live) (p .order)
       → (m0 ≡ headAt n e0 (p .links .heads)) × (h1 ≡ set (p .links .heads) (headPlace n e0) (t .slot .0))
       → (m1 ≡ headAt n e1 h1) × (h2 ≡ set h1 (headPlace n e1) (t .slot .0))
       → (v ≡ putEdges (t .slot .0) e0 e1 (p .edges)) × (x0 ≡ putEnds (t .slot .0) m0 m1 (p .links .next)) × (y0 ≡ clearEnds (t .slot .0) (p .links .prev))
-      → (y1 ≡ setEnd m0 e0 (t .slot .0) (v .min0) (v .max0) y0) × (x1 ≡ x0)
-      → (y2 ≡ setEnd m1 e1 (t .slot .0) (v .min0) (v .max0) y1) × (x2 ≡ x1)
+      → (y1 ≡ setEnd m0 e0 (t .slot .0) v y0) × (x1 ≡ x0)
+      → (y2 ≡ setEnd m1 e1 (t .slot .0) v y1) × (x2 ≡ x1)
       → _≡_ {A = Pool} (record { edges = v; links = record { heads = h2; next = x2; prev = y2 }; order = o; free = p .free; counts = t .counts }) (poolPush n e0 e1 p)
   unfolding poolPush linkFront
   push-steps et eo t1 t2 w s1 s2 =
@@ -275,15 +243,15 @@ module _ (n : ℕ) (e0 e1 : Edge) (p : Pool) (ok : PushOk n e0 e1 p) where
 pub record ReadAt (p : Pool) (s : ℕ) (e0 e1 : Edge) (n0 p0 n1 p1 : ℕ) : Type 0 where
   pub edge0 : e0 ≡ end0 (p .edges) s
   pub edge1 : e1 ≡ end1 (p .edges) s
-  pub next0 : n0 ≡ getD (p .links .next .x0) s 0
-  pub prev0 : p0 ≡ getD (p .links .prev .x0) s 0
-  pub next1 : n1 ≡ getD (p .links .next .x1) s 0
-  pub prev1 : p1 ≡ getD (p .links .prev .x1) s 0
+  pub next0 : n0 ≡ getD (p .links .next) s noEnds .x0
+  pub prev0 : p0 ≡ getD (p .links .prev) s noEnds .x0
+  pub next1 : n1 ≡ getD (p .links .next) s noEnds .x1
+  pub prev1 : p1 ≡ getD (p .links .prev) s noEnds .x1
 
 module _ (n s : ℕ) (p : Pool) {e0 e1 : Edge} {n0 p0 n1 p1 : ℕ} (z : ReadAt p s e0 e1 n0 p0 n1 p1) where
   pub remove-steps : {o : Order} {f : List ℕ} {c : Counts} {l1 l2 : Links}
-      → l1 ≡ unlinkFrom n e0 n0 p0 (p .edges .min0) (p .edges .max0) (p .links)
-      → l2 ≡ unlinkFrom n e1 n1 p1 (p .edges .min0) (p .edges .max0) l1
+      → l1 ≡ unlinkFrom n e0 n0 p0 (p .edges) (p .links)
+      → l2 ≡ unlinkFrom n e1 n1 p1 (p .edges) l1
       → o ≡ denseRemove s (p .counts .live) (p .order)
       → f ≡ set (p .free) (p .counts .freed) s
       → c ≡ countsOf (p .counts .live - 1) (p .counts .grown) (p .counts .freed + 1)
@@ -292,20 +260,20 @@ module _ (n s : ℕ) (p : Pool) {e0 e1 : Edge} {n0 p0 n1 p1 : ℕ} (z : ReadAt p
   remove-steps el1 el2 eo ef ec = rw (el2, el1, eo, ef, ec, z .edge1, z .edge0, z .next0, z .prev0, z .next1, z .prev1)
 
 -- ---- a removal stays inside: an unlinking leaves what another needs
-unlink-still : {n : ℕ} {e : Edge} {x v : ℕ} {min0 max0 : List ℕ} {l : Links} (f : Edge) (y w : ℕ) → UnlinkOk n e x v min0 max0 l → UnlinkOk n e x v min0 max0 (unlinkFrom n f y w min0 max0 l)
+unlink-still : {n : ℕ} {e : Edge} {x v : ℕ} {w : List Pair} {l : Links} (f : Edge) (y z : ℕ) → UnlinkOk n e x v w l → UnlinkOk n e x v w (unlinkFrom n f y z w l)
 unfolding unlinkFrom
-unlink-still f y w ok =
+unlink-still f y z ok =
     record {
       head = record { small = ok .head .small; edge = ok .head .edge; place = simp len-head (ok .head .place) };
-      first = record { in-min0 = ok .first .in-min0; in-max0 = ok .first .in-max0; in-x0 = λ z. simp len-x0 (ok .first .in-x0 z); in-x1 = λ z. simp len-x1 (ok .first .in-x1 z) };
-      second = record { in-min0 = ok .second .in-min0; in-max0 = ok .second .in-max0; in-x0 = λ z. simp len-x0 (ok .second .in-x0 z); in-x1 = λ z. simp len-x1 (ok .second .in-x1 z) };
+      first = record { in-edges = ok .first .in-edges; in-ends = λ u. simp len-ends (ok .first .in-ends u) };
+      second = record { in-edges = ok .second .in-edges; in-ends = λ u. simp len-ends (ok .second .in-ends u) };
     }
 
 module _ (n s : ℕ) (p : Pool) (ok : RemoveOk n s p) {e0 e1 : Edge} {n0 p0 n1 p1 : ℕ} (z : ReadAt p s e0 e1 n0 p0 n1 p1) where
-  pub unlink-ok : UnlinkOk n e0 n0 p0 (p .edges .min0) (p .edges .max0) (p .links)
+  pub unlink-ok : UnlinkOk n e0 n0 p0 (p .edges) (p .links)
   unlink-ok = rw (z .edge0, z .next0, z .prev0) (ok .unlink0)
 
-  pub unlink-ok-2 : {l : Links} → l ≡ unlinkFrom n e0 n0 p0 (p .edges .min0) (p .edges .max0) (p .links) → UnlinkOk n e1 n1 p1 (p .edges .min0) (p .edges .max0) l
+  pub unlink-ok-2 : {l : Links} → l ≡ unlinkFrom n e0 n0 p0 (p .edges) (p .links) → UnlinkOk n e1 n1 p1 (p .edges) l
   unlink-ok-2 t = rw (z .edge1, z .next1, z .prev1, t) (unlink-still e0 _ _ (ok .unlink1))
 
 -- ---- removing while there is one

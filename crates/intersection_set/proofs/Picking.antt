@@ -6,8 +6,7 @@ use native.Mathlib.Omega.{arith}
 use native.Mathlib.Nat.{mod-lt, lt-of-lt-of-le}
 use lib.ListN.{length, getD}
 use Rattle.intersection_set.specs.Store.{Store, noRec, chosen}
-use Rattle.intersection_set.specs.Pool.{Edges, Pool, end0, end1}
-use Rattle.intersection_set.specs.Within.{InEdges}
+use Rattle.intersection_set.specs.Pool.{Pair, Pool, end0, end1}
 use Rattle.intersection_set.specs.Holds.{Holds}
 use Rattle.intersection_set.specs.declared.utils.Counts.{Counts}
 use Rattle.intersection_set.proofs.Slots.{slot-below}
@@ -28,10 +27,8 @@ module _ (n : ℕ) (p : Pool) (s : Store) (h : Holds n p s) (k : ℕ) (some : 0 
   in-dense : k % p .counts .live < length (p .order .dense)
   in-dense = omega (arith, is-chosen, chosen-live, h .stored .room, h .stored .sizes .in-dense)
 
-  in-edges : InEdges (getD (p .order .dense) (k % p .counts .live) 0) (p .edges)
-  in-edges =
-      let z = h .stored .sizes in
-      record { in-min0 = lt-of-lt-of-le slot-lt (z .in-min0); in-max0 = lt-of-lt-of-le slot-lt (z .in-max0); in-min1 = lt-of-lt-of-le slot-lt (z .in-min1); in-max1 = lt-of-lt-of-le slot-lt (z .in-max1) }
+  in-edges : getD (p .order .dense) (k % p .counts .live) 0 < length (p .edges)
+  in-edges = lt-of-lt-of-le slot-lt (h .stored .sizes .in-edges)
 
   first-is : end0 (p .edges) (getD (p .order .dense) (k % p .counts .live) 0) ≡ getD (s .dense) (chosen k s) noRec .e0
   first-is = ap (end0 (p .edges)) slot-is ∙ h .stored .held (chosen k s) chosen-live .0
@@ -40,14 +37,14 @@ module _ (n : ℕ) (p : Pool) (s : Store) (h : Holds n p s) (k : ℕ) (some : 0 
   second-is = ap (end1 (p .edges)) slot-is ∙ h .stored .held (chosen k s) chosen-live .1
 
 -- the same of the lists that a caller lends
-module _ (n : ℕ) (p : Pool) (s : Store) (h : Holds n p s) {v : Edges} {d : List ℕ} {c : Counts} (ev : p .edges ≡ v) (ed : p .order .dense ≡ d) (ec : p .counts ≡ c) (k : ℕ) (some : 0 < c .live) where
+module _ (n : ℕ) (p : Pool) (s : Store) (h : Holds n p s) {v : List Pair} {d : List ℕ} {c : Counts} (ev : p .edges ≡ v) (ed : p .order .dense ≡ d) (ec : p .counts ≡ c) (k : ℕ) (some : 0 < c .live) where
   some' : 0 < p .counts .live
   some' = subst (λ (x : Counts). 0 < x .live) (sym ec) some
 
   pub pick-in-dense : k % c .live < length d
   pick-in-dense = rw (sym ec, sym ed) (in-dense n p s h k some')
 
-  pub pick-in-edges : InEdges (getD d (k % c .live) 0) v
+  pub pick-in-edges : getD d (k % c .live) 0 < length v
   pick-in-edges = rw (sym ec, sym ed, sym ev) (in-edges n p s h k some')
 
   pub picked-first : end0 v (getD d (k % c .live) 0) ≡ getD (s .dense) (chosen k s) noRec .e0

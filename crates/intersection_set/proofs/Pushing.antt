@@ -13,12 +13,12 @@ use lib.Seq.{getD-set-same, getD-set-other, getD-append-seam}
 use Rattle.algebra.specs.Cases.{both, true-or-false}
 use Rattle.algebra.specs.Counting.{one, countP, one-le, count-at, count-snoc, length-snoc}
 use Rattle.index_edge.specs.Edge.{Edge, eqE, ltE}
-use Rattle.index_edge.proofs.Edges.{edge-eq, eqE-refl, eqE-sym, ltE-other}
+use Rattle.index_edge.proofs.Edges.{eqE-refl, eqE-sym, ltE-other}
 use Rattle.intersection_set.specs.Store as plain
 use Rattle.intersection_set.specs.Store.{Rec, Store, noRec, recFor, slotFor, rest, grown}
 use Rattle.intersection_set.specs.Lists.{none, slotOf}
 use Rattle.intersection_set.specs.Pool as pool
-use Rattle.intersection_set.specs.Pool.{Edges, edges, links, linkFront, Pool, end0, end1, takeSlot, putEdges, clearEnds, densePush, poolPush, pushAt, lesser, greater}
+use Rattle.intersection_set.specs.Pool.{Ends, ends, noEnds, Pair, pair, noPair, linkFront, Pool, end0, end1, takeSlot, putEdges, clearEnds, densePush, poolPush, pushAt, lesser, greater}
 use Rattle.intersection_set.specs.Within.{Proper, Sized, PushOk}
 use Rattle.intersection_set.specs.Holds.{Each, Sound, HeldIn, Stack, InOrder, Placed, Stored, Holds, MayPush}
 use Rattle.intersection_set.proofs.Slots.{numbered-kept, free-below}
@@ -28,7 +28,7 @@ use Rattle.intersection_set.proofs.Chains.{Links, Chain, cond-fun, eith
 use Rattle.intersection_set.proofs.HeadPlaces.{placed}
 use Rattle.intersection_set.proofs.Alike.{Same, same-then, front-same}
 use Rattle.intersection_set.proofs.Views.{view, At, link-is}
-use Rattle.intersection_set.proofs.Lengths.{cap-small, len-x0, len-x1, sizes-push, sized-same}
+use Rattle.intersection_set.proofs.Lengths.{cap-small, len-ends, sizes-push, sized-same}
 use Rattle.intersection_set.proofs.Holding.{each-push, differ, Near, reach, LiveAt, chain-live, near-head, rep-same, holds-good, lists, lists-of, holds-of}
 use Rattle.intersection_set.proofs.PastTheEnd.{Past, beyond-push}
 
@@ -77,47 +77,43 @@ takes n p m (a ∷ l) hl hf hg r g b st =
     }
 
 -- ---- the record written into its slot
-abbrev wrote : Rec → Edges → Edges
-wrote r v = edges (set (v .min0) (r .slot) (r .e0 .lo)) (set (v .max0) (r .slot) (r .e0 .hi)) (set (v .min1) (r .slot) (r .e1 .lo)) (set (v .max1) (r .slot) (r .e1 .hi))
+abbrev wrote : Rec → List Pair → List Pair
+wrote r v = set v (r .slot) (pair (r .e0) (r .e1))
 
 abbrev cleared : ℕ → pool.Links → pool.Links
-cleared x l = links (l .heads) (set (l .next .x0) x none) (set (l .prev .x0) x none) (set (l .next .x1) x none) (set (l .prev .x1) x none)
+cleared x l = record { heads = l .heads; next = set (l .next) x (ends none none); prev = set (l .prev) x (ends none none) }
 
 pub record Long (m : ℕ) (l : pool.Links) : Type 0 where
   pub heads : m ≤ length (l .heads)
-  pub next0 : m ≤ length (l .next .x0)
-  pub next1 : m ≤ length (l .next .x1)
-  pub prev0 : m ≤ length (l .prev .x0)
-  pub prev1 : m ≤ length (l .prev .x1)
+  pub next : m ≤ length (l .next)
+  pub prev : m ≤ length (l .prev)
 
 pub long-sized : {n : ℕ} {p : Pool} → Sized n p → Long (n * (n - 1)) (p .links)
-long-sized z = record { heads = z .in-heads; next0 = z .in-next0; next1 = z .in-next1; prev0 = z .in-prev0; prev1 = z .in-prev1 }
+long-sized z = record { heads = z .in-heads; next = z .in-next; prev = z .in-prev }
 
 long-cleared : (m x : ℕ) (l : pool.Links) → Long m l → Long m (cleared x l)
 long-cleared m x l h =
-    record { heads = h .heads; next0 = rw length-set (h .next0); next1 = rw length-set (h .next1); prev0 = rw length-set (h .prev0); prev1 = rw length-set (h .prev1) }
+    record { heads = h .heads; next = rw length-set (h .next); prev = rw length-set (h .prev) }
 
-long-link : (m n : ℕ) (e : Edge) (x : ℕ) (min0 max0 : List ℕ) (l : pool.Links) → Long m l → Long m (linkFront n e x min0 max0 l)
+long-link : (m n : ℕ) (e : Edge) (x : ℕ) (w : List Pair) (l : pool.Links) → Long m l → Long m (linkFront n e x w l)
 unfolding linkFront
-long-link m n e x min0 max0 l h =
-    record { heads = simp length-set (h .heads); next0 = simp len-x0 (h .next0); next1 = simp len-x1 (h .next1); prev0 = simp len-x0 (h .prev0); prev1 = simp len-x1 (h .prev1) }
+long-link m n e x w l h =
+    record { heads = simp length-set (h .heads); next = simp len-ends (h .next); prev = simp len-ends (h .prev) }
 
 same-ends : {A : Type 0} (b : Bool) (v : A) → cond b v v ≡ v
 same-ends true v = refl
 same-ends false v = refl
 
+-- what is read along g of a slot with these edges and links
+abbrev linked-as : Edge → Pair → Ends → ℕ
+linked-as g a b = cond (eqE g (a .e0)) (b .x0) (b .x1)
+
 module _ (n : ℕ) (p : Pool) (s : Store) (h : Stored n p s) (rep : lists n p s) (r : Rec) (xm : r .slot < n * (n - 1)) (new : (j : ℕ) → j < length (s .dense) → getD (s .dense) j noRec .slot ≢ r .slot) where
   wrote-other : (y : ℕ) → y ≢ r .slot → (end0 (wrote r (p .edges)) y ≡ end0 (p .edges) y) × (end1 (wrote r (p .edges)) y ≡ end1 (p .edges) y)
-  wrote-other y d = (
-    edge-eq _ _ (getD-set-other (p .edges .min0) (r .slot) y (r .e0 .lo) 0 d) (getD-set-other (p .edges .max0) (r .slot) y (r .e0 .hi) 0 d),
-    edge-eq _ _ (getD-set-other (p .edges .min1) (r .slot) y (r .e1 .lo) 0 d) (getD-set-other (p .edges .max1) (r .slot) y (r .e1 .hi) 0 d),
-  )
+  wrote-other y d = let q = getD-set-other (p .edges) (r .slot) y (pair (r .e0) (r .e1)) noPair d in (ap (λ (k : Pair). k .e0) q, ap (λ (k : Pair). k .e1) q)
 
   wrote-here : HeldIn (wrote r (p .edges)) r
-  wrote-here = (
-    edge-eq _ _ (getD-set-same (p .edges .min0) (r .slot) (r .e0 .lo) 0 (lt-of-lt-of-le xm (h .sizes .in-min0))) (getD-set-same (p .edges .max0) (r .slot) (r .e0 .hi) 0 (lt-of-lt-of-le xm (h .sizes .in-max0))),
-    edge-eq _ _ (getD-set-same (p .edges .min1) (r .slot) (r .e1 .lo) 0 (lt-of-lt-of-le xm (h .sizes .in-min1))) (getD-set-same (p .edges .max1) (r .slot) (r .e1 .hi) 0 (lt-of-lt-of-le xm (h .sizes .in-max1))),
-  )
+  wrote-here = let q = getD-set-same (p .edges) (r .slot) (pair (r .e0) (r .e1)) noPair (lt-of-lt-of-le xm (h .sizes .in-edges)) in (ap (λ (k : Pair). k .e0) q, ap (λ (k : Pair). k .e1) q)
 
   wrote-held : Each (HeldIn (wrote r (p .edges))) (s .dense)
   wrote-held j i = (wrote-other _ (new j i) .0 ∙ h .held j i .0, wrote-other _ (new j i) .1 ∙ h .held j i .1)
@@ -131,16 +127,16 @@ module _ (n : ℕ) (p : Pool) (s : Store) (h : Stored n p s) (rep : lists n p s)
       chain-agree none (s .dense) k (view n (wrote r (p .edges)) (cleared (r .slot) (p .links))) g c refl
       (λ y u.
       let d : y ≢ r .slot = off y u in
-      rw (getD-set-other (p .edges .min0) (r .slot) y (r .e0 .lo) 0 d, getD-set-other (p .edges .max0) (r .slot) y (r .e0 .hi) 0 d, getD-set-other (p .links .next .x0) (r .slot) y none 0 d, getD-set-other (p .links .next .x1) (r .slot) y none 0 d))
+      λ i. linked-as g (getD-set-other (p .edges) (r .slot) y (pair (r .e0) (r .e1)) noPair d i) (getD-set-other (p .links .next) (r .slot) y (ends none none) noEnds d i))
       (λ y u.
       let d : y ≢ r .slot = off y u in
-      rw (getD-set-other (p .edges .min0) (r .slot) y (r .e0 .lo) 0 d, getD-set-other (p .edges .max0) (r .slot) y (r .e0 .hi) 0 d, getD-set-other (p .links .prev .x0) (r .slot) y none 0 d, getD-set-other (p .links .prev .x1) (r .slot) y none 0 d))
+      λ i. linked-as g (getD-set-other (p .edges) (r .slot) y (pair (r .e0) (r .e1)) noPair d i) (getD-set-other (p .links .prev) (r .slot) y (ends none none) noEnds d i))
 
 -- ---- linked in front of both lists: v and l with the record written, k what they say
-abbrev linked2 : ℕ → Rec → Edges → pool.Links → pool.Links
-linked2 n r v l = linkFront n (r .e1) (r .slot) (v .min0) (v .max0) (linkFront n (r .e0) (r .slot) (v .min0) (v .max0) l)
+abbrev linked2 : ℕ → Rec → List Pair → pool.Links → pool.Links
+linked2 n r v l = linkFront n (r .e1) (r .slot) v (linkFront n (r .e0) (r .slot) v l)
 
-module _ (n : ℕ) (v : Edges) (l : pool.Links) (r : Rec) (long : Long (n * (n - 1)) l) (sound : Sound n r) (here : HeldIn v r) (xm : r .slot < n * (n - 1)) (xn : r .slot ≢ none)
+module _ (n : ℕ) (v : List Pair) (l : pool.Links) (r : Rec) (long : Long (n * (n - 1)) l) (sound : Sound n r) (here : HeldIn v r) (xm : r .slot < n * (n - 1)) (xn : r .slot ≢ none)
     (near : (g : Edge) → Placed n g → view n v l .head g ≢ none → Near n v g (view n v l .head g)) (other : (g : Edge) → Placed n g → view n v l .head g ≢ none → view n v l .head g ≢ r .slot)
     (pv : (g : Edge) → view n v l .prev g (r .slot) ≡ none) where
   twice-is : Same (Placed n) (At v) (view n v (linked2 n r v l)) (pushLinks none (Placed n) r (view n v l))
@@ -153,18 +149,18 @@ module _ (n : ℕ) (v : Edges) (l : pool.Links) (r : Rec) (long : Long (n * (n -
       let d10 : eqE (r .e1) (r .e0) ≡ false = eqE-sym (r .e1) (r .e0) ∙ d01 in
       let v0 : At v (r .e0) x = rw (here .0, here .1) (record { apart = d01; one-of = λ u. absurd (true≢false (sym (eqE-refl (r .e0)) ∙ u)) }) in
       let v1 : At v (r .e1) x = rw (here .0, here .1) (record { apart = d01; one-of = λ _. refl }) in
-      let l1 : pool.Links = linkFront n (r .e0) x (v .min0) (v .max0) l in
-      let long1 : Long (n * (n - 1)) l1 = long-link (n * (n - 1)) n (r .e0) x (v .min0) (v .max0) l long in
+      let l1 : pool.Links = linkFront n (r .e0) x v l in
+      let long1 : Long (n * (n - 1)) l1 = long-link (n * (n - 1)) n (r .e0) x v l long in
       let S1 : Same (Placed n) (At v) (view n v l1) (front none (r .e0) x k)
-      = link-is n v l (long .heads) (r .e0) p0 x xn (reach (l .next) (long .next0) (long .next1) (record { below = xm; valid = v0 })) (λ u. reach (l .prev) (long .prev0) (long .prev1) (near (r .e0) p0 u)) (other (r .e0) p0) (pv (r .e0)) in
+      = link-is n v l (long .heads) (r .e0) p0 x xn (reach (l .next) (long .next) (record { below = xm; valid = v0 })) (λ u. reach (l .prev) (long .prev) (near (r .e0) p0 u)) (other (r .e0) p0) (pv (r .e0)) in
       let hh : view n v l1 .head (r .e1) ≡ k .head (r .e1) = S1 .heads (r .e1) p1 ∙ ap (λ (t : Bool). cond t x (k .head (r .e1))) d10 in
       let q2 : view n v l1 .prev (r .e1) x ≡ none
       = S1 .prevs (r .e1) x v1
       ∙ upd-edge (r .e0) x none (cond (eqb (k .head (r .e0)) none) (k .prev) (upd (r .e0) (k .head (r .e0)) x (k .prev))) (r .e1) x d10
       ∙ cond-fun (eqb (k .head (r .e0)) none) (k .prev) (upd (r .e0) (k .head (r .e0)) x (k .prev)) (r .e1) x none (pv (r .e1)) (upd-edge (r .e0) (k .head (r .e0)) x (k .prev) (r .e1) x d10 ∙ pv (r .e1)) in
       let S2 : Same (Placed n) (At v) (view n v (linked2 n r v l)) (front none (r .e1) x (view n v l1))
-      = link-is n v l1 (long1 .heads) (r .e1) p1 x xn (reach (l1 .next) (long1 .next0) (long1 .next1) (record { below = xm; valid = v1 }))
-      (λ u. reach (l1 .prev) (long1 .prev0) (long1 .prev1) (subst⁻¹ (Near n v (r .e1)) hh (near (r .e1) p1 (λ t. u (hh ∙ t)))))
+      = link-is n v l1 (long1 .heads) (r .e1) p1 x xn (reach (l1 .next) (long1 .next) (record { below = xm; valid = v1 }))
+      (λ u. reach (l1 .prev) (long1 .prev) (subst⁻¹ (Near n v (r .e1)) hh (near (r .e1) p1 (λ t. u (hh ∙ t)))))
       (λ u q. other (r .e1) p1 (λ t. u (hh ∙ t)) (sym hh ∙ q))
       q2 in
       let S3 : Same (Placed n) (At v) (front none (r .e1) x (view n v l1)) (pushLinks none (Placed n) r k)
@@ -191,7 +187,7 @@ module _ (n : ℕ) (p : Pool) (s : Store) (h : Stored n p s) (rep : lists n p s)
   pub lists-push : Rep none (Placed n) (plain.push a b s) (view n (wrote (newRec a b s) (p .edges)) (linked2 n (newRec a b s) (wrote (newRec a b s) (p .edges)) (cleared (newRec a b s .slot) (p .links))))
   lists-push =
       let r : Rec = newRec a b s in
-      let v : Edges = wrote r (p .edges) in
+      let v : List Pair = wrote r (p .edges) in
       let l : pool.Links = cleared (r .slot) (p .links) in
       let k : Links = view n v l in
       let xm : r .slot < n * (n - 1) = took .below in
@@ -202,7 +198,7 @@ module _ (n : ℕ) (p : Pool) (s : Store) (h : Stored n p s) (rep : lists n p s)
       let rep1 : Rep none (Placed n) s k = wrote-rep n p s h rep r xm new-slot in
       let long : Long (n * (n - 1)) l = long-cleared (n * (n - 1)) (r .slot) (p .links) (long-sized (h .sizes)) in
       let pv : (g : Edge) → k .prev g (r .slot) ≡ none
-      = λ g. rw (getD-set-same (p .links .prev .x0) (r .slot) none 0 (lt-of-lt-of-le xm (h .sizes .in-prev0)), getD-set-same (p .links .prev .x1) (r .slot) none 0 (lt-of-lt-of-le xm (h .sizes .in-prev1))) (same-ends (eqE g (end0 v (r .slot))) none) in
+      = λ g. rw (getD-set-same (p .links .prev) (r .slot) (ends none none) noEnds (lt-of-lt-of-le xm (h .sizes .in-prev))) (same-ends (eqE g (end0 v (r .slot))) none) in
       let near : (g : Edge) → Placed n g → k .head g ≢ none → Near n v g (k .head g) = λ g pg u. near-head n v s (h .numbered) (h .room) (h .sound) held1 k g (rep1 g pg) u in
       let other : (g : Edge) → Placed n g → k .head g ≢ none → k .head g ≢ r .slot
       = λ g pg u q.

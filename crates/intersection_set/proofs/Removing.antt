@@ -17,7 +17,7 @@ use Rattle.intersection_set.specs.Store as plain
 use Rattle.intersection_set.specs.Store.{Rec, Store, Found, nothing, at-place, noRec, swapRemove, newestFrom, removeFound, removeAllFuel, names}
 use Rattle.intersection_set.specs.Lists.{none, slotOf}
 use Rattle.intersection_set.specs.Pool as pool
-use Rattle.intersection_set.specs.Pool.{Edges, Pool, end0, end1, denseRemove, unlinkFrom, poolRemove, poolRemoveAll, headAt}
+use Rattle.intersection_set.specs.Pool.{noEnds, Pair, Pool, end0, end1, denseRemove, unlinkFrom, poolRemove, poolRemoveAll, headAt}
 use Rattle.intersection_set.specs.Within.{Proper, RemoveOk, HeadOk, Drained}
 use Rattle.intersection_set.specs.Holds.{Sound, HeldIn, InOrder, Placed, Stored, Holds}
 use Rattle.intersection_set.proofs.Records.{Newest, newest-is}
@@ -27,15 +27,15 @@ use Rattle.intersection_set.proofs.Chains.{Links, Rep, cond-fun, names-
 use Rattle.intersection_set.proofs.HeadPlaces.{placed}
 use Rattle.intersection_set.proofs.Alike.{Same, same-then, unlink-same}
 use Rattle.intersection_set.proofs.Views.{view, At, unlink-is}
-use Rattle.intersection_set.proofs.Lengths.{cap-small, place-lt, end-ok, head-ok, len-x0, len-x1, len-head, sizes-remove, sized-same, all-none, all-suc}
+use Rattle.intersection_set.proofs.Lengths.{cap-small, place-lt, end-ok, head-ok, len-ends, len-head, sizes-remove, sized-same, all-none, all-suc}
 use Rattle.intersection_set.proofs.Holding.{each-remove, differ, stack-set, Near, reach, near-prev, near-next, rep-same, along-first, along-second, lists, lists-of, holds-of, not-none}
 use Rattle.intersection_set.proofs.Pushing.{Long, long-sized}
 use Rattle.intersection_set.proofs.PastTheEnd.{Past, past-self, past-after, past-unlink, past-then}
 
-long-unlink : (m n : ℕ) (e : Edge) (x y : ℕ) (min0 max0 : List ℕ) (l : pool.Links) → Long m l → Long m (unlinkFrom n e x y min0 max0 l)
+long-unlink : (m n : ℕ) (e : Edge) (x y : ℕ) (w : List Pair) (l : pool.Links) → Long m l → Long m (unlinkFrom n e x y w l)
 unfolding unlinkFrom
-long-unlink m n e x y min0 max0 l h =
-    record { heads = simp len-head (h .heads); next0 = simp len-x0 (h .next0); next1 = simp len-x1 (h .next1); prev0 = simp len-x0 (h .prev0); prev1 = simp len-x1 (h .prev1) }
+long-unlink m n e x y w l h =
+    record { heads = simp len-head (h .heads); next = simp len-ends (h .next); prev = simp len-ends (h .prev) }
 
 -- ---- links along another edge
 other-prev : (e g : Edge) (x y : ℕ) (k : Links) → eqE g e ≡ false → unlink none e x k .prev g y ≡ k .prev g y
@@ -45,11 +45,11 @@ other-next : (e g : Edge) (x y : ℕ) (k : Links) → eqE g e ≡ false → unli
 other-next e g x y k h = cond-fun (eqb (k .prev e x) none) _ _ g y (k .next g y) refl (upd-edge e (k .prev e x) (k .next e x) (k .next) g y h)
 
 -- ---- out of both lists
-abbrev out1 : ℕ → ℕ → Edge → Edges → pool.Links → pool.Links
-out1 n x e v l = unlinkFrom n e (getD (l .next .x0) x 0) (getD (l .prev .x0) x 0) (v .min0) (v .max0) l
+abbrev out1 : ℕ → ℕ → Edge → List Pair → pool.Links → pool.Links
+out1 n x e v l = unlinkFrom n e (getD (l .next) x noEnds .x0) (getD (l .prev) x noEnds .x0) v l
 
-abbrev out2 : ℕ → ℕ → Edge → Edge → Edges → pool.Links → pool.Links
-out2 n x e f v l = unlinkFrom n f (getD (l .next .x1) x 0) (getD (l .prev .x1) x 0) (v .min0) (v .max0) (out1 n x e v l)
+abbrev out2 : ℕ → ℕ → Edge → Edge → List Pair → pool.Links → pool.Links
+out2 n x e f v l = unlinkFrom n f (getD (l .next) x noEnds .x1) (getD (l .prev) x noEnds .x1) v (out1 n x e v l)
 
 module _ (n : ℕ) (p : Pool) (s : Store) (h : Stored n p s) (rep : lists n p s) (j : ℕ) (i : j < length (s .dense)) where
   abbrev rec : Rec
@@ -61,16 +61,16 @@ module _ (n : ℕ) (p : Pool) (s : Store) (h : Stored n p s) (rep : lists n p s)
   slot-lt : rec .slot < n * (n - 1)
   slot-lt = omega (arith, slot-below s (h .numbered) j i, h .room)
 
-  next0-is : getD (p .links .next .x0) (rec .slot) 0 ≡ view n (p .edges) (p .links) .next (rec .e0) (rec .slot)
+  next0-is : getD (p .links .next) (rec .slot) noEnds .x0 ≡ view n (p .edges) (p .links) .next (rec .e0) (rec .slot)
   next0-is = sym (along-first n (p .edges) rec (h .sound j i) (h .held j i) (p .links .next))
 
-  prev0-is : getD (p .links .prev .x0) (rec .slot) 0 ≡ view n (p .edges) (p .links) .prev (rec .e0) (rec .slot)
+  prev0-is : getD (p .links .prev) (rec .slot) noEnds .x0 ≡ view n (p .edges) (p .links) .prev (rec .e0) (rec .slot)
   prev0-is = sym (along-first n (p .edges) rec (h .sound j i) (h .held j i) (p .links .prev))
 
-  next1-is : getD (p .links .next .x1) (rec .slot) 0 ≡ view n (p .edges) (p .links) .next (rec .e1) (rec .slot)
+  next1-is : getD (p .links .next) (rec .slot) noEnds .x1 ≡ view n (p .edges) (p .links) .next (rec .e1) (rec .slot)
   next1-is = sym (along-second n (p .edges) rec (h .sound j i) (h .held j i) (p .links .next))
 
-  prev1-is : getD (p .links .prev .x1) (rec .slot) 0 ≡ view n (p .edges) (p .links) .prev (rec .e1) (rec .slot)
+  prev1-is : getD (p .links .prev) (rec .slot) noEnds .x1 ≡ view n (p .edges) (p .links) .prev (rec .e1) (rec .slot)
   prev1-is = sym (along-second n (p .edges) rec (h .sound j i) (h .held j i) (p .links .prev))
 
   near : (g : Edge) → Placed n g → names g rec ≡ true
@@ -84,16 +84,16 @@ module _ (n : ℕ) (p : Pool) (s : Store) (h : Stored n p s) (rep : lists n p s)
   as-read : (g : Edge) (y z : ℕ) → y ≡ z → (z ≢ none → Near n (p .edges) g z) → y ≢ none → Near n (p .edges) g y
   as-read g y z q f u = subst⁻¹ (Near n (p .edges) g) q (f (λ w. u (q ∙ w)))
 
-  near-p0 : getD (p .links .prev .x0) (rec .slot) 0 ≢ none → Near n (p .edges) (rec .e0) (getD (p .links .prev .x0) (rec .slot) 0)
+  near-p0 : getD (p .links .prev) (rec .slot) noEnds .x0 ≢ none → Near n (p .edges) (rec .e0) (getD (p .links .prev) (rec .slot) noEnds .x0)
   near-p0 = as-read (rec .e0) _ _ prev0-is (near (rec .e0) (placed (h .sound j i .first)) (names-first (rec .e0) rec (eqE-refl (rec .e0))) .0)
 
-  near-n0 : getD (p .links .next .x0) (rec .slot) 0 ≢ none → Near n (p .edges) (rec .e0) (getD (p .links .next .x0) (rec .slot) 0)
+  near-n0 : getD (p .links .next) (rec .slot) noEnds .x0 ≢ none → Near n (p .edges) (rec .e0) (getD (p .links .next) (rec .slot) noEnds .x0)
   near-n0 = as-read (rec .e0) _ _ next0-is (near (rec .e0) (placed (h .sound j i .first)) (names-first (rec .e0) rec (eqE-refl (rec .e0))) .1)
 
-  near-p1 : getD (p .links .prev .x1) (rec .slot) 0 ≢ none → Near n (p .edges) (rec .e1) (getD (p .links .prev .x1) (rec .slot) 0)
+  near-p1 : getD (p .links .prev) (rec .slot) noEnds .x1 ≢ none → Near n (p .edges) (rec .e1) (getD (p .links .prev) (rec .slot) noEnds .x1)
   near-p1 = as-read (rec .e1) _ _ prev1-is (near (rec .e1) (placed (h .sound j i .second)) (names-second (rec .e1) rec (eqE-refl (rec .e1))) .0)
 
-  near-n1 : getD (p .links .next .x1) (rec .slot) 0 ≢ none → Near n (p .edges) (rec .e1) (getD (p .links .next .x1) (rec .slot) 0)
+  near-n1 : getD (p .links .next) (rec .slot) noEnds .x1 ≢ none → Near n (p .edges) (rec .e1) (getD (p .links .next) (rec .slot) noEnds .x1)
   near-n1 = as-read (rec .e1) _ _ next1-is (near (rec .e1) (placed (h .sound j i .second)) (names-second (rec .e1) rec (eqE-refl (rec .e1))) .1)
 
   spot-is : getD (p .order .reverse) (rec .slot) 0 ≡ j
@@ -109,8 +109,8 @@ module _ (n : ℕ) (p : Pool) (s : Store) (h : Stored n p s) (rep : lists n p s)
       let o0 : Proper n (end0 (p .edges) (rec .slot)) = subst⁻¹ (Proper n) (h .held j i .0) (h .sound j i .first) in
       let o1 : Proper n (end1 (p .edges) (rec .slot)) = subst⁻¹ (Proper n) (h .held j i .1) (h .sound j i .second) in
       record {
-        in-edges = record { in-min0 = lt-of-lt-of-le w (z .in-min0); in-max0 = lt-of-lt-of-le w (z .in-max0); in-min1 = lt-of-lt-of-le w (z .in-min1); in-max1 = lt-of-lt-of-le w (z .in-max1) };
-        in-links = record { in-next0 = lt-of-lt-of-le w (z .in-next0); in-prev0 = lt-of-lt-of-le w (z .in-prev0); in-next1 = lt-of-lt-of-le w (z .in-next1); in-prev1 = lt-of-lt-of-le w (z .in-prev1) };
+        in-edges = lt-of-lt-of-le w (z .in-edges);
+        in-next = lt-of-lt-of-le w (z .in-next);
         in-free = omega (arith, h .freed, h .room, z .in-free);
         drops = record {
           some = omega (arith, h .live);
@@ -121,19 +121,19 @@ module _ (n : ℕ) (p : Pool) (s : Store) (h : Stored n p s) (rep : lists n p s)
         };
         unlink0 = record {
           head = head-ok (h .small) o0 (z .in-heads);
-          first = end-ok _ (n * (n - 1)) (λ u. near-p0 u .below) (z .in-min0) (z .in-max0) (z .in-next0) (z .in-next1);
-          second = end-ok _ (n * (n - 1)) (λ u. near-n0 u .below) (z .in-min0) (z .in-max0) (z .in-prev0) (z .in-prev1);
+          first = end-ok _ (n * (n - 1)) (λ u. near-p0 u .below) (z .in-edges) (z .in-next);
+          second = end-ok _ (n * (n - 1)) (λ u. near-n0 u .below) (z .in-edges) (z .in-prev);
         };
         unlink1 = record {
           head = head-ok (h .small) o1 (z .in-heads);
-          first = end-ok _ (n * (n - 1)) (λ u. near-p1 u .below) (z .in-min0) (z .in-max0) (z .in-next0) (z .in-next1);
-          second = end-ok _ (n * (n - 1)) (λ u. near-n1 u .below) (z .in-min0) (z .in-max0) (z .in-prev0) (z .in-prev1);
+          first = end-ok _ (n * (n - 1)) (λ u. near-p1 u .below) (z .in-edges) (z .in-next);
+          second = end-ok _ (n * (n - 1)) (λ u. near-n1 u .below) (z .in-edges) (z .in-prev);
         };
       }
 
   out-is : Same (Placed n) (At (p .edges)) (view n (p .edges) (out2 n (rec .slot) (rec .e0) (rec .e1) (p .edges) (p .links))) (removeLinks none (Placed n) rec (view n (p .edges) (p .links)))
   out-is =
-      let v : Edges = p .edges in
+      let v : List Pair = p .edges in
       let l : pool.Links = p .links in
       let x : ℕ = rec .slot in
       let k : Links = view n v l in
@@ -142,17 +142,17 @@ module _ (n : ℕ) (p : Pool) (s : Store) (h : Stored n p s) (rep : lists n p s)
       let v1 : At v (rec .e1) x = rw (h .held j i .0, h .held j i .1) (record { apart = differ (h .sound j i); one-of = λ _. refl }) in
       let long : Long (n * (n - 1)) l = long-sized (h .sizes) in
       let l1 : pool.Links = out1 n x (rec .e0) v l in
-      let long1 : Long (n * (n - 1)) l1 = long-unlink (n * (n - 1)) n (rec .e0) (getD (l .next .x0) x 0) (getD (l .prev .x0) x 0) (v .min0) (v .max0) l long in
+      let long1 : Long (n * (n - 1)) l1 = long-unlink (n * (n - 1)) n (rec .e0) (getD (l .next) x noEnds .x0) (getD (l .prev) x noEnds .x0) v l long in
       let S1 : Same (Placed n) (At v) (view n v l1) (unlink none (rec .e0) x k)
-      = unlink-is n v l (long .heads) (rec .e0) p0 x (getD (l .prev .x0) x 0) (getD (l .next .x0) x 0) prev0-is next0-is
-      (λ u. reach (l .next) (long .next0) (long .next1) (near-p0 u))
-      (λ u. reach (l .prev) (long .prev0) (long .prev1) (near-n0 u)) in
+      = unlink-is n v l (long .heads) (rec .e0) p0 x (getD (l .prev) x noEnds .x0) (getD (l .next) x noEnds .x0) prev0-is next0-is
+      (λ u. reach (l .next) (long .next) (near-p0 u))
+      (λ u. reach (l .prev) (long .prev) (near-n0 u)) in
       let S2 : Same (Placed n) (At v) (view n v (out2 n x (rec .e0) (rec .e1) v l)) (unlink none (rec .e1) x (view n v l1))
-      = unlink-is n v l1 (long1 .heads) (rec .e1) p1 x (getD (l .prev .x1) x 0) (getD (l .next .x1) x 0)
+      = unlink-is n v l1 (long1 .heads) (rec .e1) p1 x (getD (l .prev) x noEnds .x1) (getD (l .next) x noEnds .x1)
       (prev1-is ∙ sym (S1 .prevs (rec .e1) x v1 ∙ other-prev (rec .e0) (rec .e1) x x k d10))
       (next1-is ∙ sym (S1 .nexts (rec .e1) x v1 ∙ other-next (rec .e0) (rec .e1) x x k d10))
-      (λ u. reach (l1 .next) (long1 .next0) (long1 .next1) (near-p1 u))
-      (λ u. reach (l1 .prev) (long1 .prev0) (long1 .prev1) (near-n1 u)) in
+      (λ u. reach (l1 .next) (long1 .next) (near-p1 u))
+      (λ u. reach (l1 .prev) (long1 .prev) (near-n1 u)) in
       let S3 : Same (Placed n) (At v) (unlink none (rec .e1) x (view n v l1)) (removeLinks none (Placed n) rec k)
       = unlink-same (Placed n) (At v) none (rec .e1) x (view n v l1) (unlink none (rec .e0) x k) v1 p1 S1 in
       same-then (Placed n) (At v) (view n v (out2 n x (rec .e0) (rec .e1) v l)) (unlink none (rec .e1) x (view n v l1)) (removeLinks none (Placed n) rec k) S2 S3
@@ -224,19 +224,14 @@ module _ (n : ℕ) (p : Pool) (s : Store) (h : Stored n p s) (rep : lists n p s)
       let x : ℕ = rec .slot in
       let ok = remove-ok in
       let last-lt : getD (p .order .dense) (p .counts .live - 1) 0 < m = omega (arith, last-is, slot-below s (h .numbered) (length (s .dense) - 1) (omega arith), h .room) in
-      let L1 = past-unlink m n (end0 (p .edges) x) (p .edges .min0) (p .edges .max0) (p .links) (place-lt n (end0 (p .edges) x) (ok .unlink0 .head .edge)) (getD (p .links .next .x0) x 0) (getD (p .links .prev .x0) x 0) (λ u. near-n0 u .below) (λ u. near-p0 u .below) in
-      let L2 = past-unlink m n (end1 (p .edges) x) (p .edges .min0) (p .edges .max0) _ (place-lt n (end1 (p .edges) x) (ok .unlink1 .head .edge)) (getD (p .links .next .x1) x 0) (getD (p .links .prev .x1) x 0) (λ u. near-n1 u .below) (λ u. near-p1 u .below) in
+      let L1 = past-unlink m n (end0 (p .edges) x) (p .edges) (p .links) (place-lt n (end0 (p .edges) x) (ok .unlink0 .head .edge)) (getD (p .links .next) x noEnds .x0) (getD (p .links .prev) x noEnds .x0) (λ u. near-n0 u .below) (λ u. near-p0 u .below) in
+      let L2 = past-unlink m n (end1 (p .edges) x) (p .edges) _ (place-lt n (end1 (p .edges) x) (ok .unlink1 .head .edge)) (getD (p .links .next) x noEnds .x1) (getD (p .links .prev) x noEnds .x1) (λ u. near-n1 u .below) (λ u. near-p1 u .below) in
       let L = past-then L2 L1 in
       record {
         heads = L .heads;
-        next0 = L .next0;
-        prev0 = L .prev0;
-        next1 = L .next1;
-        prev1 = L .prev1;
-        min0 = refl;
-        max0 = refl;
-        min1 = refl;
-        max1 = refl;
+        next = L .next;
+        prev = L .prev;
+        edges = refl;
         dense = drop-set-lt m (p .order .dense) (getD (p .order .reverse) x 0) _ (omega (arith, spot-is, h .room));
         reverse = drop-set-lt m (p .order .reverse) (getD (p .order .dense) (p .counts .live - 1) 0) _ last-lt;
         free = drop-set-lt m (p .free) (p .counts .freed) x (omega (arith, h .freed, h .room));

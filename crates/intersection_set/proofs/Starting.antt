@@ -3,14 +3,13 @@ use mathlib.Core.Path.{_≡_, ap, _∙_}
 use mathlib.Core.List.{List}
 use Prim.Native.Nat.{ℕ, _-_, _*_, _≤_}
 use native.Mathlib.Omega.{arith}
-use lib.ListN.{length, getD}
+use lib.ListN.{length, getD, length-map}
 use Rattle.intersection_set.specs.Store.{empty}
 use Rattle.intersection_set.specs.Lists.{headPlace}
-use Rattle.intersection_set.specs.Pool.{Pool, Buffers, lent, poolOf, countsOf, fill}
+use Rattle.intersection_set.specs.Pool.{pairOf, nextsIn, prevsIn, Pool, Buffers, lent, poolOf, countsOf, fill}
 use Rattle.intersection_set.specs.Within.{Sized, Room}
 use Rattle.intersection_set.specs.Holds.{Holds}
 use Rattle.intersection_set.specs.declared.utils.Counts.{Counts}
-use Rattle.intersection_set.proofs.Words.{len-min0, len-max0, len-min1, len-max1, len-nexts, len-prevs}
 use Rattle.intersection_set.proofs.Slots.{numbered-empty}
 use Rattle.intersection_set.proofs.Filling.{fill-at}
 use Rattle.intersection_set.proofs.HeadPlaces.{head-below}
@@ -42,14 +41,9 @@ pub sized-lent : {n : ℕ} (b : Buffers) (c : Counts) → Room n b → Sized n (
 sized-lent b c z =
     record {
       in-heads = z .in-heads;
-      in-next0 = rw (len-nexts (b .links) .0) (z .in-links);
-      in-prev0 = rw (len-prevs (b .links) .0) (z .in-links);
-      in-next1 = rw (len-nexts (b .links) .1) (z .in-links);
-      in-prev1 = rw (len-prevs (b .links) .1) (z .in-links);
-      in-min0 = rw (len-min0 (b .ends)) (z .in-ends);
-      in-max0 = rw (len-max0 (b .ends)) (z .in-ends);
-      in-min1 = rw (len-min1 (b .ends)) (z .in-ends);
-      in-max1 = rw (len-max1 (b .ends)) (z .in-ends);
+      in-next = rw (length-map (b .links) nextsIn) (z .in-links);
+      in-prev = rw (length-map (b .links) prevsIn) (z .in-links);
+      in-edges = rw (length-map (b .ends) pairOf) (z .in-ends);
       in-dense = z .in-dense;
       in-reverse = z .in-reverse;
       in-free = z .in-free;

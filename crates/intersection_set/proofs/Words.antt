@@ -12,7 +12,7 @@ use borrow.Author.Tests.{ne-eqb}
 use Rattle.index_edge.specs.Edge.{Edge, eqE}
 use Rattle.intersection_set.specs.Lists.{none}
 use Rattle.intersection_set.specs.Words.{packed, part0, part1, part2, part3, withNext, withPrev}
-use Rattle.intersection_set.specs.Pool.{Edges, Ends, ends, edgesOf, nextsOf, prevsOf, end0, end1, setEnd, putEdges, putEnds, clearEnds}
+use Rattle.intersection_set.specs.Pool.{Ends, ends, noEnds, Pair, pair, noPair, pairOf, edgesOf, nextsIn, prevsIn, end0, putEnd, setEnd, putEdges, putEnds, clearEnds}
 
 pub part0-small : (w : ℕ) → part0 w < 65536
 unfolding part0
@@ -84,172 +84,115 @@ module _ (w v : ℕ) (hw : w < 18446744073709551616) (hv : v < 65536) where
       let e : w / 281474976710656 % 65536 ≡ w / 281474976710656 = omega (arith, q) in
       omega (arith, e, packed-parts w)
 
--- ---- the lists of parts: their lengths
-module _ (w : List ℕ) where
-  pub len-min0 : length (edgesOf w .min0) ≡ length w
-  unfolding edgesOf
-  len-min0 = length-map w part0
+-- ---- what is read of a word
+module _ (l : List ℕ) (i : ℕ) where
+  pub in-words : {A : Type 0} (f : ℕ → A) → i < length (map f l) → i < length l
+  in-words f h = subst (λ (k : ℕ). i < k) (length-map l f) h
 
-  pub len-max0 : length (edgesOf w .max0) ≡ length w
-  unfolding edgesOf
-  len-max0 = length-map w part1
+  pub pair-reads : getD (edgesOf l) i noPair ≡ pairOf (getD l i 0)
+  unfolding pairOf part0 part1 part2 part3
+  pair-reads = List·getD-map pairOf l i 0
 
-  pub len-min1 : length (edgesOf w .min1) ≡ length w
-  unfolding edgesOf
-  len-min1 = length-map w part2
+  pub nexts-read : getD (map nextsIn l) i noEnds ≡ nextsIn (getD l i 0)
+  unfolding nextsIn part0 part2
+  nexts-read = List·getD-map nextsIn l i 0
 
-  pub len-max1 : length (edgesOf w .max1) ≡ length w
-  unfolding edgesOf
-  len-max1 = length-map w part3
+  pub prevs-read : getD (map prevsIn l) i noEnds ≡ prevsIn (getD l i 0)
+  unfolding prevsIn part1 part3
+  prevs-read = List·getD-map prevsIn l i 0
 
-  pub len-nexts : (length (nextsOf w .x0) ≡ length w) × (length (nextsOf w .x1) ≡ length w)
-  unfolding nextsOf
-  len-nexts = (length-map w part0, length-map w part2)
-
-  pub len-prevs : (length (prevsOf w .x0) ≡ length w) × (length (prevsOf w .x1) ≡ length w)
-  unfolding prevsOf
-  len-prevs = (length-map w part1, length-map w part3)
-
-  pub in-ends : (i : ℕ) → i < length (edgesOf w .min0) → i < length w
-  in-ends i h = subst (λ (k : ℕ). i < k) len-min0 h
-
-  pub in-nexts : (i : ℕ) → i < length (nextsOf w .x0) → i < length w
-  in-nexts i h = subst (λ (k : ℕ). i < k) (len-nexts .0) h
-
-  pub in-prevs : (i : ℕ) → i < length (prevsOf w .x0) → i < length w
-  in-prevs i h = subst (λ (k : ℕ). i < k) (len-prevs .0) h
-
-  -- and what is read of them
-  module _ (i : ℕ) where
-    pub end0-reads : end0 (edgesOf w) i ≡ record { lo = part0 (getD w i 0); hi = part1 (getD w i 0) }
-    unfolding edgesOf part0 part1
-    end0-reads = λ j. record { lo = List·getD-map part0 w i 0 j; hi = List·getD-map part1 w i 0 j }
-
-    pub end1-reads : end1 (edgesOf w) i ≡ record { lo = part2 (getD w i 0); hi = part3 (getD w i 0) }
-    unfolding edgesOf part2 part3
-    end1-reads = λ j. record { lo = List·getD-map part2 w i 0 j; hi = List·getD-map part3 w i 0 j }
-
-    pub next0-reads : getD (nextsOf w .x0) i 0 ≡ part0 (getD w i 0)
-    unfolding nextsOf part0
-    next0-reads = List·getD-map part0 w i 0
-
-    pub next1-reads : getD (nextsOf w .x1) i 0 ≡ part2 (getD w i 0)
-    unfolding nextsOf part2
-    next1-reads = List·getD-map part2 w i 0
-
-    pub prev0-reads : getD (prevsOf w .x0) i 0 ≡ part1 (getD w i 0)
-    unfolding prevsOf part1
-    prev0-reads = List·getD-map part1 w i 0
-
-    pub prev1-reads : getD (prevsOf w .x1) i 0 ≡ part3 (getD w i 0)
-    unfolding prevsOf part3
-    prev1-reads = List·getD-map part3 w i 0
-
-pub same-ends : (w w′ : List ℕ) → length (edgesOf w .min0) ≡ length (edgesOf w′ .min0) → length w ≡ length w′
-same-ends w w′ q = sym (len-min0 w) ∙ q ∙ len-min0 w′
-
-pub same-links : (w w′ : List ℕ) → length (nextsOf w .x0) ≡ length (nextsOf w′ .x0) → length w ≡ length w′
-same-links w w′ q = sym (len-nexts w .0) ∙ q ∙ len-nexts w′ .0
+pub as-many : {A : Type 0} (f : ℕ → A) (l k : List ℕ) → length (map f l) ≡ length (map f k) → length l ≡ length k
+as-many f l k q = sym (length-map l f) ∙ q ∙ length-map k f
 
 -- ---- words with the same numbers are the same words, from m on
-abbrev again : List ℕ → List ℕ → List ℕ → List ℕ → List ℕ
-again [] l m n = []
-again (a ∷ k) l m n = packed a (getD l 0 0) (getD m 0 0) (getD n 0 0) ∷ again k (drop 1 l) (drop 1 m) (drop 1 n)
-
-back : (l : List ℕ) → again (map part0 l) (map part1 l) (map part2 l) (map part3 l) ≡ l
-back [] = refl
-back (w ∷ l) = λ j. packed-parts w j ∷ back l j
-
-drop-map : (f : ℕ → ℕ) (m : ℕ) (l : List ℕ) → drop m (map f l) ≡ map f (drop m l)
+drop-map : {A : Type 0} (f : ℕ → A) (m : ℕ) (l : List ℕ) → drop m (map f l) ≡ map f (drop m l)
 drop-map f zero l = refl
 drop-map f (suc m) [] = refl
 drop-map f (suc m) (x ∷ l) = drop-map f m l
 
-same-all : (a b : List ℕ) → map part0 a ≡ map part0 b → map part1 a ≡ map part1 b → map part2 a ≡ map part2 b → map part3 a ≡ map part3 b → a ≡ b
-same-all a b h0 h1 h2 h3 = sym (back a) ∙ (λ j. again (h0 j) (h1 j) (h2 j) (h3 j)) ∙ back b
+map-map : {A : Type 0} (f : ℕ → A) (g : A → ℕ) (l : List ℕ) → ((w : ℕ) → g (f w) ≡ w) → map g (map f l) ≡ l
+map-map f g [] h = refl
+map-map f g (x ∷ l) h = λ j. h x j ∷ map-map f g l h j
 
-pub same-words : (m : ℕ) (a b : List ℕ) → drop m (map part0 a) ≡ drop m (map part0 b) → drop m (map part1 a) ≡ drop m (map part1 b)
-    → drop m (map part2 a) ≡ drop m (map part2 b) → drop m (map part3 a) ≡ drop m (map part3 b) → drop m a ≡ drop m b
-same-words m a b h0 h1 h2 h3 =
-    same-all (drop m a) (drop m b) (sym (drop-map part0 m a) ∙ h0 ∙ drop-map part0 m b) (sym (drop-map part1 m a) ∙ h1 ∙ drop-map part1 m b)
-    (sym (drop-map part2 m a) ∙ h2 ∙ drop-map part2 m b) (sym (drop-map part3 m a) ∙ h3 ∙ drop-map part3 m b)
+pub same-pairs : (m : ℕ) (a b : List ℕ) → drop m (edgesOf a) ≡ drop m (edgesOf b) → drop m a ≡ drop m b
+unfolding pairOf
+same-pairs m a b h =
+    let g : Pair → ℕ = λ p. packed (p .e0 .lo) (p .e0 .hi) (p .e1 .lo) (p .e1 .hi) in
+    sym (map-map pairOf g (drop m a) packed-parts) ∙ ap (map g) (sym (drop-map pairOf m a) ∙ h ∙ drop-map pairOf m b) ∙ map-map pairOf g (drop m b) packed-parts
+
+abbrev both-ends : List Ends → List Ends → List ℕ
+both-ends [] q = []
+both-ends (x ∷ p) q = let y = getD q 0 noEnds in packed (x .x0) (y .x0) (x .x1) (y .x1) ∷ both-ends p (drop 1 q)
+
+back : (l : List ℕ) → both-ends (map nextsIn l) (map prevsIn l) ≡ l
+unfolding nextsIn prevsIn
+back [] = refl
+back (w ∷ l) = λ j. packed-parts w j ∷ back l j
+
+pub same-ends : (m : ℕ) (a b : List ℕ) → drop m (map nextsIn a) ≡ drop m (map nextsIn b) → drop m (map prevsIn a) ≡ drop m (map prevsIn b) → drop m a ≡ drop m b
+same-ends m a b h k =
+    sym (back (drop m a))
+    ∙ (λ j. both-ends ((sym (drop-map nextsIn m a) ∙ h ∙ drop-map nextsIn m b) j) ((sym (drop-map prevsIn m a) ∙ k ∙ drop-map prevsIn m b) j))
+    ∙ back (drop m b)
 
 -- ---- a word stored
-stored : (f : ℕ → ℕ) (l : List ℕ) (i y v : ℕ) → f y ≡ v → map f (set l i y) ≡ set (map f l) i v
+stored : {A : Type 0} (f : ℕ → A) (l : List ℕ) (i y : ℕ) (v : A) → f y ≡ v → map f (set l i y) ≡ set (map f l) i v
 stored f [] i y v e = refl
-stored f (x ∷ xs) zero y v e = ap (λ (z : ℕ). z ∷ map f xs) e
-stored f (x ∷ xs) (suc i) y v e = ap (λ (zs : List ℕ). f x ∷ zs) (stored f xs i y v e)
+stored {A} f (x ∷ xs) zero y v e = ap (λ (z : A). z ∷ map f xs) e
+stored {A} f (x ∷ xs) (suc i) y v e = ap (λ (zs : List A). f x ∷ zs) (stored f xs i y v e)
 
 -- four numbers at once
 module _ (l : List ℕ) (i a b c d : ℕ) (ha : a < 65536) (hb : b < 65536) (hc : c < 65536) where
   pub edges-stored : edgesOf (set l i (packed a b c d)) ≡ putEdges i (record { lo = a; hi = b }) (record { lo = c; hi = d }) (edgesOf l)
-  unfolding edgesOf putEdges
-  edges-stored = λ j.
-      record {
-        min0 = stored part0 l i (packed a b c d) a (part0-of a b c d ha hb hc) j;
-        max0 = stored part1 l i (packed a b c d) b (part1-of a b c d ha hb hc) j;
-        min1 = stored part2 l i (packed a b c d) c (part2-of a b c d ha hb hc) j;
-        max1 = stored part3 l i (packed a b c d) d (part3-of a b c d ha hb hc) j;
-      }
+  unfolding pairOf putEdges
+  edges-stored = stored pairOf l i (packed a b c d) _ (λ j. pair (record { lo = part0-of a b c d ha hb hc j; hi = part1-of a b c d ha hb hc j }) (record { lo = part2-of a b c d ha hb hc j; hi = part3-of a b c d ha hb hc j }))
 
-  pub nexts-stored : nextsOf (set l i (packed a b c d)) ≡ putEnds i a c (nextsOf l)
-  unfolding nextsOf putEnds
-  nexts-stored = λ j. record { x0 = stored part0 l i (packed a b c d) a (part0-of a b c d ha hb hc) j; x1 = stored part2 l i (packed a b c d) c (part2-of a b c d ha hb hc) j }
+  pub nexts-stored : map nextsIn (set l i (packed a b c d)) ≡ putEnds i a c (map nextsIn l)
+  unfolding nextsIn putEnds
+  nexts-stored = stored nextsIn l i (packed a b c d) _ (λ j. ends (part0-of a b c d ha hb hc j) (part2-of a b c d ha hb hc j))
 
-  pub prevs-stored : prevsOf (set l i (packed a b c d)) ≡ putEnds i b d (prevsOf l)
-  unfolding prevsOf putEnds
-  prevs-stored = λ j. record { x0 = stored part1 l i (packed a b c d) b (part1-of a b c d ha hb hc) j; x1 = stored part3 l i (packed a b c d) d (part3-of a b c d ha hb hc) j }
+  pub prevs-stored : map prevsIn (set l i (packed a b c d)) ≡ putEnds i b d (map prevsIn l)
+  unfolding prevsIn putEnds
+  prevs-stored = stored prevsIn l i (packed a b c d) _ (λ j. ends (part1-of a b c d ha hb hc j) (part3-of a b c d ha hb hc j))
 
 -- one of them
-abbrev pub put : ℕ → ℕ → Ends → Bool → Ends
-put i v x first = cond first (ends (set (x .x0) i v) (x .x1)) (ends (x .x0) (set (x .x1) i v))
+module _ (w v : ℕ) (hv : v < 65536) where
+  nexts-of-next : (first : Bool) → nextsIn (withNext first w v) ≡ putEnd first v (nextsIn w)
+  unfolding nextsIn withNext
+  nexts-of-next true = λ j. ends (part0-of v (part1 w) (part2 w) (part3 w) hv (part1-small w) (part2-small w) j) (part2-of v (part1 w) (part2 w) (part3 w) hv (part1-small w) (part2-small w) j)
+  nexts-of-next false = λ j. ends (part0-of (part0 w) (part1 w) v (part3 w) (part0-small w) (part1-small w) hv j) (part2-of (part0 w) (part1 w) v (part3 w) (part0-small w) (part1-small w) hv j)
 
-module _ (l : List ℕ) (i v : ℕ) (hv : v < 65536) where
-  pub next-stored : (first : Bool) → (nextsOf (set l i (withNext first (getD l i 0) v)) ≡ put i v (nextsOf l) first) × (prevsOf (set l i (withNext first (getD l i 0) v)) ≡ prevsOf l)
-  unfolding nextsOf prevsOf withNext
-  next-stored true =
-      let w : ℕ = getD l i 0 in
-      let q1 = part1-small w in
-      let q2 = part2-small w in (
-        λ j. record { x0 = stored part0 l i _ v (part0-of v (part1 w) (part2 w) (part3 w) hv q1 q2) j; x1 = map-set-same part2 l i _ 0 (part2-of v (part1 w) (part2 w) (part3 w) hv q1 q2) j },
-        λ j. record { x0 = map-set-same part1 l i _ 0 (part1-of v (part1 w) (part2 w) (part3 w) hv q1 q2) j; x1 = map-set-same part3 l i _ 0 (part3-of v (part1 w) (part2 w) (part3 w) hv q1 q2) j },
-      )
-  next-stored false =
-      let w : ℕ = getD l i 0 in
-      let q0 = part0-small w in
-      let q1 = part1-small w in (
-        λ j. record { x0 = map-set-same part0 l i _ 0 (part0-of (part0 w) (part1 w) v (part3 w) q0 q1 hv) j; x1 = stored part2 l i _ v (part2-of (part0 w) (part1 w) v (part3 w) q0 q1 hv) j },
-        λ j. record { x0 = map-set-same part1 l i _ 0 (part1-of (part0 w) (part1 w) v (part3 w) q0 q1 hv) j; x1 = map-set-same part3 l i _ 0 (part3-of (part0 w) (part1 w) v (part3 w) q0 q1 hv) j },
-      )
+  prevs-of-next : (first : Bool) → prevsIn (withNext first w v) ≡ prevsIn w
+  unfolding prevsIn withNext
+  prevs-of-next true = λ j. ends (part1-of v (part1 w) (part2 w) (part3 w) hv (part1-small w) (part2-small w) j) (part3-of v (part1 w) (part2 w) (part3 w) hv (part1-small w) (part2-small w) j)
+  prevs-of-next false = λ j. ends (part1-of (part0 w) (part1 w) v (part3 w) (part0-small w) (part1-small w) hv j) (part3-of (part0 w) (part1 w) v (part3 w) (part0-small w) (part1-small w) hv j)
 
-  pub prev-stored : (first : Bool) → (prevsOf (set l i (withPrev first (getD l i 0) v)) ≡ put i v (prevsOf l) first) × (nextsOf (set l i (withPrev first (getD l i 0) v)) ≡ nextsOf l)
-  unfolding nextsOf prevsOf withPrev
-  prev-stored true =
-      let w : ℕ = getD l i 0 in
-      let q0 = part0-small w in
-      let q2 = part2-small w in (
-        λ j. record { x0 = stored part1 l i _ v (part1-of (part0 w) v (part2 w) (part3 w) q0 hv q2) j; x1 = map-set-same part3 l i _ 0 (part3-of (part0 w) v (part2 w) (part3 w) q0 hv q2) j },
-        λ j. record { x0 = map-set-same part0 l i _ 0 (part0-of (part0 w) v (part2 w) (part3 w) q0 hv q2) j; x1 = map-set-same part2 l i _ 0 (part2-of (part0 w) v (part2 w) (part3 w) q0 hv q2) j },
-      )
-  prev-stored false =
-      let w : ℕ = getD l i 0 in
-      let q0 = part0-small w in
-      let q1 = part1-small w in
-      let q2 = part2-small w in (
-        λ j. record { x0 = map-set-same part1 l i _ 0 (part1-of (part0 w) (part1 w) (part2 w) v q0 q1 q2) j; x1 = stored part3 l i _ v (part3-of (part0 w) (part1 w) (part2 w) v q0 q1 q2) j },
-        λ j. record { x0 = map-set-same part0 l i _ 0 (part0-of (part0 w) (part1 w) (part2 w) v q0 q1 q2) j; x1 = map-set-same part2 l i _ 0 (part2-of (part0 w) (part1 w) (part2 w) v q0 q1 q2) j },
-      )
+  prevs-of-prev : (first : Bool) → prevsIn (withPrev first w v) ≡ putEnd first v (prevsIn w)
+  unfolding prevsIn withPrev
+  prevs-of-prev true = λ j. ends (part1-of (part0 w) v (part2 w) (part3 w) (part0-small w) hv (part2-small w) j) (part3-of (part0 w) v (part2 w) (part3 w) (part0-small w) hv (part2-small w) j)
+  prevs-of-prev false = λ j. ends (part1-of (part0 w) (part1 w) (part2 w) v (part0-small w) (part1-small w) (part2-small w) j) (part3-of (part0 w) (part1 w) (part2 w) v (part0-small w) (part1-small w) (part2-small w) j)
+
+  nexts-of-prev : (first : Bool) → nextsIn (withPrev first w v) ≡ nextsIn w
+  unfolding nextsIn withPrev
+  nexts-of-prev true = λ j. ends (part0-of (part0 w) v (part2 w) (part3 w) (part0-small w) hv (part2-small w) j) (part2-of (part0 w) v (part2 w) (part3 w) (part0-small w) hv (part2-small w) j)
+  nexts-of-prev false = λ j. ends (part0-of (part0 w) (part1 w) (part2 w) v (part0-small w) (part1-small w) (part2-small w) j) (part2-of (part0 w) (part1 w) (part2 w) v (part0-small w) (part1-small w) (part2-small w) j)
 
 -- ---- the same as the steps of the pool say it
-module _ (w l : List ℕ) (s : ℕ) (e : Edge) (v : ℕ) {first : Bool} {r : ℕ} (some : s ≢ none) (hv : v < 65536) (here : first ≡ eqE e (end0 (edgesOf w) s)) where
-  pub next-set : r ≡ withNext first (getD l s 0) v → (nextsOf (set l s r) ≡ setEnd s e v (edgesOf w .min0) (edgesOf w .max0) (nextsOf l)) × (prevsOf (set l s r) ≡ prevsOf l)
+module _ (w : List Pair) (l : List ℕ) (s : ℕ) (e : Edge) (v : ℕ) {first : Bool} {r : ℕ} (some : s ≢ none) (hv : v < 65536) (here : first ≡ eqE e (end0 w s)) where
+  pub next-set : r ≡ withNext first (getD l s 0) v → (map nextsIn (set l s r) ≡ setEnd s e v w (map nextsIn l)) × (map prevsIn (set l s r) ≡ map prevsIn l)
   unfolding setEnd
-  next-set q = let k = next-stored l s v hv first in (rw (ne-eqb s none some, sym here, q) (k .0), rw q (k .1))
+  next-set q = (
+    rw (ne-eqb s none some, sym here, q, nexts-read l s) (stored nextsIn l s _ _ (nexts-of-next (getD l s 0) v hv first)),
+    rw q (map-set-same prevsIn l s _ 0 (prevs-of-next (getD l s 0) v hv first)),
+  )
 
-  pub prev-set : r ≡ withPrev first (getD l s 0) v → (prevsOf (set l s r) ≡ setEnd s e v (edgesOf w .min0) (edgesOf w .max0) (prevsOf l)) × (nextsOf (set l s r) ≡ nextsOf l)
+  pub prev-set : r ≡ withPrev first (getD l s 0) v → (map prevsIn (set l s r) ≡ setEnd s e v w (map prevsIn l)) × (map nextsIn (set l s r) ≡ map nextsIn l)
   unfolding setEnd
-  prev-set q = let k = prev-stored l s v hv first in (rw (ne-eqb s none some, sym here, q) (k .0), rw q (k .1))
+  prev-set q = (
+    rw (ne-eqb s none some, sym here, q, prevs-read l s) (stored prevsIn l s _ _ (prevs-of-prev (getD l s 0) v hv first)),
+    rw q (map-set-same nextsIn l s _ 0 (nexts-of-prev (getD l s 0) v hv first)),
+  )
 
-pub cleared : (s : ℕ) (x : Ends) → putEnds s none none x ≡ clearEnds s x
+pub cleared : (s : ℕ) (x : List Ends) → putEnds s none none x ≡ clearEnds s x
 unfolding putEnds clearEnds
 cleared s x = refl

@@ -8,7 +8,7 @@ use Rattle.index_edge.specs.Edge.{Edge, eqE, ltE}
 use Rattle.intersection_set.specs.Store.{Rec, Store, noRec, grown}
 use Rattle.intersection_set.specs.Numbered.{Numbered}
 use Rattle.intersection_set.specs.Lists.{slotOf, headPlace, headOf, nextOf, prevOf, reverseOf, stackOf, headsOf}
-use Rattle.intersection_set.specs.Pool.{Edges, Links, Pool, Buffers, edgesOf, linksOf, end0, end1}
+use Rattle.intersection_set.specs.Pool.{noEnds, Pair, Links, Pool, Buffers, edgesOf, linksOf, end0, end1}
 use Rattle.intersection_set.specs.Within.{Proper, Sized}
 
 -- a property of each record
@@ -22,15 +22,15 @@ pub record Sound (n : ℕ) (r : Rec) : Type 0 where
   pub ordered : ltE (r .e0) (r .e1) ≡ true
 
 -- its edges stand at its slot
-abbrev pub HeldIn : Edges → Rec → Type 0
+abbrev pub HeldIn : List Pair → Rec → Type 0
 HeldIn v r = (end0 v (r .slot) ≡ r .e0) × (end1 v (r .slot) ≡ r .e1)
 
 -- and so do its links along both edges' lists
 pub record LinkedIn (l : Links) (s : Store) (r : Rec) : Type 0 where
-  pub next0 : getD (l .next .x0) (r .slot) 0 ≡ nextOf (r .e0) (r .slot) s
-  pub prev0 : getD (l .prev .x0) (r .slot) 0 ≡ prevOf (r .e0) (r .slot) s
-  pub next1 : getD (l .next .x1) (r .slot) 0 ≡ nextOf (r .e1) (r .slot) s
-  pub prev1 : getD (l .prev .x1) (r .slot) 0 ≡ prevOf (r .e1) (r .slot) s
+  pub next0 : getD (l .next) (r .slot) noEnds .x0 ≡ nextOf (r .e0) (r .slot) s
+  pub prev0 : getD (l .prev) (r .slot) noEnds .x0 ≡ prevOf (r .e0) (r .slot) s
+  pub next1 : getD (l .next) (r .slot) noEnds .x1 ≡ nextOf (r .e1) (r .slot) s
+  pub prev1 : getD (l .prev) (r .slot) noEnds .x1 ≡ prevOf (r .e1) (r .slot) s
 
 -- the dense order and its reverse
 abbrev pub InOrder : List ℕ → List Rec → Type 0

@@ -1,5 +1,5 @@
 -- What the lent buffers say, as a list for each field of a record, and what each step of the pool does to it.
-use mathlib.Core.Bool.{cond}
+use mathlib.Core.Bool.{Bool, cond}
 use mathlib.Core.List.{List, _++_, map}
 use Prim.Native.Nat.{ℕ, zero, suc, _+_, _-_}
 use lib.ListN.{getD, set, drop, replicate}
@@ -10,46 +10,51 @@ use Rattle.intersection_set.specs.Words.{part0, part1, part2, part3}
 use Rattle.intersection_set.specs.declared.utils.Counts.{Counts}
 use Rattle.intersection_set.specs.declared.utils.Taken.{Taken}
 
--- one list for each of a record's two edges
+-- a number for each of a record's two edges
 pub record Ends : Type 0 where
-  pub x0 : List ℕ
-  pub x1 : List ℕ
+  pub x0 : ℕ
+  pub x1 : ℕ
 
-abbrev pub ends : List ℕ → List ℕ → Ends
+abbrev pub ends : ℕ → ℕ → Ends
 ends x0 x1 = record { x0 = x0; x1 = x1 }
 
--- the points of each record's two edges
-pub record Edges : Type 0 where
-  pub min0 : List ℕ
-  pub max0 : List ℕ
-  pub min1 : List ℕ
-  pub max1 : List ℕ
+-- a place that holds nothing reads as this
+abbrev pub noEnds : Ends
+noEnds = ends 0 0
 
-abbrev pub edges : List ℕ → List ℕ → List ℕ → List ℕ → Edges
-edges min0 max0 min1 max1 = record { min0 = min0; max0 = max0; min1 = min1; max1 = max1 }
+-- a record's two edges
+pub record Pair : Type 0 where
+  pub e0 : Edge
+  pub e1 : Edge
 
--- as they stand in a record's first word
-unfoldable pub edgesOf : List ℕ → Edges
-edgesOf w = edges (map part0 w) (map part1 w) (map part2 w) (map part3 w)
+abbrev pub pair : Edge → Edge → Pair
+pair e0 e1 = record { e0 = e0; e1 = e1 }
+
+abbrev pub noPair : Pair
+noPair = pair (record { lo = 0; hi = 0 }) (record { lo = 0; hi = 0 })
+
+-- the edges of each record, as they stand in its first word
+unfoldable pub pairOf : ℕ → Pair
+pairOf w = pair (record { lo = part0 w; hi = part1 w }) (record { lo = part2 w; hi = part3 w })
+
+abbrev pub edgesOf : List ℕ → List Pair
+edgesOf w = map pairOf w
 
 -- each edge's head, and each record's links along its two edges
 pub record Links : Type 0 where
   pub heads : List ℕ
-  pub next : Ends
-  pub prev : Ends
-
-abbrev pub links : List ℕ → List ℕ → List ℕ → List ℕ → List ℕ → Links
-links heads next0 prev0 next1 prev1 = record { heads = heads; next = ends next0 next1; prev = ends prev0 prev1 }
+  pub next : List Ends
+  pub prev : List Ends
 
 -- as they stand in a record's second word
-unfoldable pub nextsOf : List ℕ → Ends
-nextsOf w = ends (map part0 w) (map part2 w)
+unfoldable pub nextsIn : ℕ → Ends
+nextsIn w = ends (part0 w) (part2 w)
 
-unfoldable pub prevsOf : List ℕ → Ends
-prevsOf w = ends (map part1 w) (map part3 w)
+unfoldable pub prevsIn : ℕ → Ends
+prevsIn w = ends (part1 w) (part3 w)
 
 abbrev pub linksOf : List ℕ → List ℕ → Links
-linksOf heads w = record { heads = heads; next = nextsOf w; prev = prevsOf w }
+linksOf heads w = record { heads = heads; next = map nextsIn w; prev = map prevsIn w }
 
 -- the slots of the live records, and each live slot's place among them
 pub record Order : Type 0 where
@@ -61,7 +66,7 @@ order dense reverse = record { dense = dense; reverse = reverse }
 
 -- the whole pool
 pub record Pool : Type 0 where
-  pub edges : Edges
+  pub edges : List Pair
   pub links : Links
   pub order : Order
   pub free : List ℕ
@@ -110,54 +115,49 @@ denseRemove s live o =
     order (set (o .dense) (getD (o .reverse) s 0) (getD (o .dense) (live - 1) 0)) (set (o .reverse) (getD (o .dense) (live - 1) 0) (getD (o .reverse) s 0))
 
 -- ---- lists
-abbrev pub edgeAt : List ℕ → List ℕ → ℕ → Edge
-edgeAt a b i = record { lo = getD a i 0; hi = getD b i 0 }
-
 -- the two edges of a slot
-abbrev pub end0 : Edges → ℕ → Edge
-end0 v t = edgeAt (v .min0) (v .max0) t
+abbrev pub end0 : List Pair → ℕ → Edge
+end0 v t = getD v t noPair .e0
 
-abbrev pub end1 : Edges → ℕ → Edge
-end1 v t = edgeAt (v .min1) (v .max1) t
+abbrev pub end1 : List Pair → ℕ → Edge
+end1 v t = getD v t noPair .e1
+
+-- one of two numbers anew
+abbrev pub putEnd : Bool → ℕ → Ends → Ends
+putEnd first v y = cond first (ends v (y .x1)) (ends (y .x0) v)
 
 -- the link to v is written at the slot s, in the end that names e; nothing where s is none
-unfoldable pub setEnd : ℕ → Edge → ℕ → List ℕ → List ℕ → Ends → Ends
-setEnd s e v min0 max0 x =
-    cond (eqb s none) x (cond (eqE e (edgeAt min0 max0 s)) (ends (set (x .x0) s v) (x .x1)) (ends (x .x0) (set (x .x1) s v)))
+unfoldable pub setEnd : ℕ → Edge → ℕ → List Pair → List Ends → List Ends
+setEnd s e v w x = cond (eqb s none) x (set x s (putEnd (eqE e (end0 w s)) v (getD x s noEnds)))
 
 abbrev pub headAt : ℕ → Edge → List ℕ → ℕ
 headAt n e heads = getD heads (headPlace n e) 0
 
 -- s goes in front of the list of e
-unfoldable pub linkFront : ℕ → Edge → ℕ → List ℕ → List ℕ → Links → Links
-linkFront n e s min0 max0 l =
+unfoldable pub linkFront : ℕ → Edge → ℕ → List Pair → Links → Links
+linkFront n e s w l =
     record {
       heads = set (l .heads) (headPlace n e) s;
-      next = setEnd s e (headAt n e (l .heads)) min0 max0 (l .next);
-      prev = setEnd (headAt n e (l .heads)) e s min0 max0 (l .prev);
+      next = setEnd s e (headAt n e (l .heads)) w (l .next);
+      prev = setEnd (headAt n e (l .heads)) e s w (l .prev);
     }
 
 unfoldable pub setHead : ℕ → Edge → ℕ → ℕ → List ℕ → List ℕ
 setHead n e next prev heads = cond (eqb prev none) (set heads (headPlace n e) next) heads
 
 -- a record whose links along e are next and prev is taken out of the list of e
-unfoldable pub unlinkFrom : ℕ → Edge → ℕ → ℕ → List ℕ → List ℕ → Links → Links
-unlinkFrom n e next prev min0 max0 l =
-    record {
-      heads = setHead n e next prev (l .heads);
-      next = setEnd prev e next min0 max0 (l .next);
-      prev = setEnd next e prev min0 max0 (l .prev);
-    }
+unfoldable pub unlinkFrom : ℕ → Edge → ℕ → ℕ → List Pair → Links → Links
+unlinkFrom n e next prev w l = record { heads = setHead n e next prev (l .heads); next = setEnd prev e next w (l .next); prev = setEnd next e prev w (l .prev) }
 
 -- ---- push
-unfoldable pub putEdges : ℕ → Edge → Edge → Edges → Edges
-putEdges s e0 e1 v = edges (set (v .min0) s (e0 .lo)) (set (v .max0) s (e0 .hi)) (set (v .min1) s (e1 .lo)) (set (v .max1) s (e1 .hi))
+unfoldable pub putEdges : ℕ → Edge → Edge → List Pair → List Pair
+putEdges s e0 e1 v = set v s (pair e0 e1)
 
-unfoldable pub putEnds : ℕ → ℕ → ℕ → Ends → Ends
-putEnds s v0 v1 x = ends (set (x .x0) s v0) (set (x .x1) s v1)
+unfoldable pub putEnds : ℕ → ℕ → ℕ → List Ends → List Ends
+putEnds s v0 v1 x = set x s (ends v0 v1)
 
-unfoldable pub clearEnds : ℕ → Ends → Ends
-clearEnds s x = ends (set (x .x0) s none) (set (x .x1) s none)
+unfoldable pub clearEnds : ℕ → List Ends → List Ends
+clearEnds s x = set x s (ends none none)
 
 abbrev pub clearLinks : ℕ → Links → Links
 clearLinks s l = record { heads = l .heads; next = clearEnds s (l .next); prev = clearEnds s (l .prev) }
@@ -168,7 +168,7 @@ pushAt n e0 e1 s c p =
     let v = putEdges s e0 e1 (p .edges) in
     record {
       edges = v;
-      links = linkFront n e1 s (v .min0) (v .max0) (linkFront n e0 s (v .min0) (v .max0) (clearLinks s (p .links)));
+      links = linkFront n e1 s v (linkFront n e0 s v (clearLinks s (p .links)));
       order = densePush s (p .counts .live) (p .order);
       free = p .free;
       counts = c;
@@ -187,8 +187,8 @@ greater a b = cond (ltE a b) b a
 -- ---- remove
 abbrev pub unlinkBoth : ℕ → ℕ → Pool → Links
 unlinkBoth n s p =
-    unlinkFrom n (end1 (p .edges) s) (getD (p .links .next .x1) s 0) (getD (p .links .prev .x1) s 0) (p .edges .min0) (p .edges .max0)
-    (unlinkFrom n (end0 (p .edges) s) (getD (p .links .next .x0) s 0) (getD (p .links .prev .x0) s 0) (p .edges .min0) (p .edges .max0) (p .links))
+    unlinkFrom n (end1 (p .edges) s) (getD (p .links .next) s noEnds .x1) (getD (p .links .prev) s noEnds .x1) (p .edges)
+    (unlinkFrom n (end0 (p .edges) s) (getD (p .links .next) s noEnds .x0) (getD (p .links .prev) s noEnds .x0) (p .edges) (p .links))
 
 -- the record at s is unlinked, the last dense entry put in its dense place, and the slot freed
 unfoldable pub poolRemove : ℕ → ℕ → Pool → Pool

@@ -7,7 +7,7 @@ use Prim.Native.Nat.{ℕ, _+_, _-_, _*_, _<_, _≤_}
 use lib.ListN.{length, getD}
 use Rattle.index_edge.specs.Edge.{Edge, eqE}
 use Rattle.intersection_set.specs.Lists.{none, headPlace}
-use Rattle.intersection_set.specs.Pool.{Ends, Edges, Links, Order, Pool, Buffers, end0, end1, headAt, poolRemove}
+use Rattle.intersection_set.specs.Pool.{Ends, noEnds, Pair, Links, Order, Pool, Buffers, end0, end1, headAt, poolRemove}
 use Rattle.intersection_set.specs.declared.utils.Counts.{Counts}
 
 -- an edge between two of n points
@@ -34,47 +34,28 @@ pub record DropOk (s live : ℕ) (o : Order) : Type 0 where
   pub last : getD (o .dense) (live - 1) 0 < length (o .reverse)
 
 -- ---- links
--- a slot, if it is one, is inside the four lists
-pub record EndOk (s : ℕ) (min0 max0 : List ℕ) (x : Ends) : Type 0 where
-  pub in-min0 : s ≢ none → s < length min0
-  pub in-max0 : s ≢ none → s < length max0
-  pub in-x0 : s ≢ none → s < length (x .x0)
-  pub in-x1 : s ≢ none → s < length (x .x1)
+-- a slot, if it is one, is inside both lists
+pub record EndOk (s : ℕ) (w : List Pair) (x : List Ends) : Type 0 where
+  pub in-edges : s ≢ none → s < length w
+  pub in-ends : s ≢ none → s < length x
 
 pub record HeadOk (n : ℕ) (e : Edge) (heads : List ℕ) : Type 0 where
   pub small : n ≤ 256
   pub edge : Proper n e
   pub place : headPlace n e < length heads
 
-pub record UnlinkOk (n : ℕ) (e : Edge) (next prev : ℕ) (min0 max0 : List ℕ) (l : Links) : Type 0 where
+pub record UnlinkOk (n : ℕ) (e : Edge) (next prev : ℕ) (w : List Pair) (l : Links) : Type 0 where
   pub head : HeadOk n e (l .heads)
-  pub first : EndOk prev min0 max0 (l .next)
-  pub second : EndOk next min0 max0 (l .prev)
-
-pub record InEdges (s : ℕ) (v : Edges) : Type 0 where
-  pub in-min0 : s < length (v .min0)
-  pub in-max0 : s < length (v .max0)
-  pub in-min1 : s < length (v .min1)
-  pub in-max1 : s < length (v .max1)
-
-pub record InLinks (s : ℕ) (next prev : Ends) : Type 0 where
-  pub in-next0 : s < length (next .x0)
-  pub in-prev0 : s < length (prev .x0)
-  pub in-next1 : s < length (next .x1)
-  pub in-prev1 : s < length (prev .x1)
+  pub first : EndOk prev w (l .next)
+  pub second : EndOk next w (l .prev)
 
 -- ---- the whole pool
 -- the lists of a pool of n points are long enough
 pub record Sized (n : ℕ) (p : Pool) : Type 0 where
   pub in-heads : n * (n - 1) ≤ length (p .links .heads)
-  pub in-next0 : n * (n - 1) ≤ length (p .links .next .x0)
-  pub in-prev0 : n * (n - 1) ≤ length (p .links .prev .x0)
-  pub in-next1 : n * (n - 1) ≤ length (p .links .next .x1)
-  pub in-prev1 : n * (n - 1) ≤ length (p .links .prev .x1)
-  pub in-min0 : n * (n - 1) ≤ length (p .edges .min0)
-  pub in-max0 : n * (n - 1) ≤ length (p .edges .max0)
-  pub in-min1 : n * (n - 1) ≤ length (p .edges .min1)
-  pub in-max1 : n * (n - 1) ≤ length (p .edges .max1)
+  pub in-next : n * (n - 1) ≤ length (p .links .next)
+  pub in-prev : n * (n - 1) ≤ length (p .links .prev)
+  pub in-edges : n * (n - 1) ≤ length (p .edges)
   pub in-dense : n * (n - 1) ≤ length (p .order .dense)
   pub in-reverse : n * (n - 1) ≤ length (p .order .reverse)
   pub in-free : n * (n - 1) ≤ length (p .free)
@@ -105,12 +86,12 @@ pub record PushOk (n : ℕ) (e0 e1 : Edge) (p : Pool) : Type 0 where
   pub room : p .counts .live < n * (n - 1)
 
 pub record RemoveOk (n s : ℕ) (p : Pool) : Type 0 where
-  pub in-edges : InEdges s (p .edges)
-  pub in-links : InLinks s (p .links .next) (p .links .prev)
+  pub in-edges : s < length (p .edges)
+  pub in-next : s < length (p .links .next)
   pub in-free : p .counts .freed < length (p .free)
   pub drops : DropOk s (p .counts .live) (p .order)
-  pub unlink0 : UnlinkOk n (end0 (p .edges) s) (getD (p .links .next .x0) s 0) (getD (p .links .prev .x0) s 0) (p .edges .min0) (p .edges .max0) (p .links)
-  pub unlink1 : UnlinkOk n (end1 (p .edges) s) (getD (p .links .next .x1) s 0) (getD (p .links .prev .x1) s 0) (p .edges .min0) (p .edges .max0) (p .links)
+  pub unlink0 : UnlinkOk n (end0 (p .edges) s) (getD (p .links .next) s noEnds .x0) (getD (p .links .prev) s noEnds .x0) (p .edges) (p .links)
+  pub unlink1 : UnlinkOk n (end1 (p .edges) s) (getD (p .links .next) s noEnds .x1) (getD (p .links .prev) s noEnds .x1) (p .edges) (p .links)
 
 -- the records of e can be removed, newest first, until there is none
 pub data Drained (n : ℕ) (e : Edge) : Pool → Type 0 where

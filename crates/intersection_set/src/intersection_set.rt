@@ -5,13 +5,14 @@
 // `heads` has each edge's newest record.
 ghost use mathlib.Core.Path.{_≡_};
 ghost use mathlib.Core.Bool.{true, cond};
+ghost use mathlib.Core.List.{map};
 ghost use Prim.Native.Nat.{ℕ, _-_, _*_, _<_, _≤_};
 ghost use lib.ListN.{length, getD, set, drop};
 ghost use Rattle.index_edge.specs.Number.{edgeOf};
 ghost use Rattle.intersection_set.specs.Store.{Store, noRec, empty, push as pushed, removeAll as allRemoved, chosen};
 ghost use Rattle.intersection_set.specs.Lists.{headPlace};
 ghost use Rattle.intersection_set.specs.Words.{packed, part0, part1, part2, part3, withNext, withPrev};
-ghost use Rattle.intersection_set.specs.Pool.{Pool, edgesOf, nextsOf, prevsOf, linksOf, lent, poolOf, end0, end1, headAt, setEnd, setHead, unlinkFrom, putEdges, putEnds, clearEnds, poolPush, poolRemove, lesser, greater, fill};
+ghost use Rattle.intersection_set.specs.Pool.{Pool, edgesOf, nextsIn, prevsIn, linksOf, lent, poolOf, end0, end1, headAt, setEnd, setHead, unlinkFrom, putEdges, putEnds, clearEnds, poolPush, poolRemove, lesser, greater, fill};
 ghost use Rattle.intersection_set.specs.Within.{Proper, EndOk, HeadOk, UnlinkOk, Sized, PushOk, RemoveOk};
 ghost use Rattle.intersection_set.specs.Holds.{Holds, MayPush, Beyond};
 use crate::utils::Counts;
@@ -169,8 +170,8 @@ fn with_prev(first: bool, w: u64, v: u16) -> u64
 
 // Sets the next link of the record s to v, in the end of s that is e (`IndexMut<IndexEdge>`). Nothing where s is no record.
 fn set_next(s: SparseIndex, e: IndexEdge, v: SparseIndex, ends: &[u64], links: &mut [u64])
-    requires { ⌜ EndOk (s .0) (edgesOf (now ends) .min0) (edgesOf (now ends) .max0) (nextsOf (now links)) ⌝ }
-    ensures { λ _. ⌜ (nextsOf (now (links .exit)) ≡ setEnd (s .0) (edgeOf e) (v .0) (edgesOf (now (ends .entry)) .min0) (edgesOf (now (ends .entry)) .max0) (nextsOf (now (links .entry)))) × (prevsOf (now (links .exit)) ≡ prevsOf (now (links .entry))) ⌝ }
+    requires { ⌜ EndOk (s .0) (edgesOf (now ends)) (map nextsIn (now links)) ⌝ }
+    ensures { λ _. ⌜ (map nextsIn (now (links .exit)) ≡ setEnd (s .0) (edgeOf e) (v .0) (edgesOf (now (ends .entry))) (map nextsIn (now (links .entry)))) × (map prevsIn (now (links .exit)) ≡ map prevsIn (now (links .entry))) ⌝ }
 {
     if s.is_none() {
         return;
@@ -183,8 +184,8 @@ fn set_next(s: SparseIndex, e: IndexEdge, v: SparseIndex, ends: &[u64], links: &
 
 // The same for the previous link.
 fn set_prev(s: SparseIndex, e: IndexEdge, v: SparseIndex, ends: &[u64], links: &mut [u64])
-    requires { ⌜ EndOk (s .0) (edgesOf (now ends) .min0) (edgesOf (now ends) .max0) (prevsOf (now links)) ⌝ }
-    ensures { λ _. ⌜ (prevsOf (now (links .exit)) ≡ setEnd (s .0) (edgeOf e) (v .0) (edgesOf (now (ends .entry)) .min0) (edgesOf (now (ends .entry)) .max0) (prevsOf (now (links .entry)))) × (nextsOf (now (links .exit)) ≡ nextsOf (now (links .entry))) ⌝ }
+    requires { ⌜ EndOk (s .0) (edgesOf (now ends)) (map prevsIn (now links)) ⌝ }
+    ensures { λ _. ⌜ (map prevsIn (now (links .exit)) ≡ setEnd (s .0) (edgeOf e) (v .0) (edgesOf (now (ends .entry))) (map prevsIn (now (links .entry)))) × (map nextsIn (now (links .exit)) ≡ map nextsIn (now (links .entry))) ⌝ }
 {
     if s.is_none() {
         return;
@@ -217,8 +218,8 @@ fn put_record(
 )
     requires { ⌜ (s .0 < length (now ends)) × (s .0 < length (now links)) ⌝ }
     ensures { λ _. ⌜ (edgesOf (now (ends .exit)) ≡ putEdges (s .0) (edgeOf (isect .min)) (edgeOf (isect .max)) (edgesOf (now (ends .entry))))
-        × (nextsOf (now (links .exit)) ≡ putEnds (s .0) (next0 .0) (next1 .0) (nextsOf (now (links .entry))))
-        × (prevsOf (now (links .exit)) ≡ clearEnds (s .0) (prevsOf (now (links .entry)))) ⌝ }
+        × (map nextsIn (now (links .exit)) ≡ putEnds (s .0) (next0 .0) (next1 .0) (map nextsIn (now (links .entry))))
+        × (map prevsIn (now (links .exit)) ≡ clearEnds (s .0) (map prevsIn (now (links .entry)))) ⌝ }
 {
     let i = s.0 as usize;
     ends[i] = pack(
@@ -306,8 +307,8 @@ fn unlink(
     ends: &[u64],
     links: &mut [u64],
 )
-    requires { ⌜ UnlinkOk n (edgeOf e) (next .0) (prev .0) (edgesOf (now ends) .min0) (edgesOf (now ends) .max0) (linksOf (now heads) (now links)) ⌝ }
-    ensures { λ _. ⌜ linksOf (now (heads .exit)) (now (links .exit)) ≡ unlinkFrom n (edgeOf e) (next .0) (prev .0) (edgesOf (now (ends .entry)) .min0) (edgesOf (now (ends .entry)) .max0) (linksOf (now (heads .entry)) (now (links .entry))) ⌝ }
+    requires { ⌜ UnlinkOk n (edgeOf e) (next .0) (prev .0) (edgesOf (now ends)) (linksOf (now heads) (now links)) ⌝ }
+    ensures { λ _. ⌜ linksOf (now (heads .exit)) (now (links .exit)) ≡ unlinkFrom n (edgeOf e) (next .0) (prev .0) (edgesOf (now (ends .entry))) (linksOf (now (heads .entry)) (now (links .entry))) ⌝ }
 {
     set_head(n, e, next, prev, heads);
     set_next(prev, e, next, ends, links);

@@ -1,6 +1,7 @@
-use mathlib.Core.Path.{sym, _∙_}
+use mathlib.Core.Path.{sym, ap, _∙_}
+use Rattle.intersection_set.specs.Pool.{Pair, pairOf}
 use denote.Ref.{now}
-use Rattle.intersection_set.proofs.Words.{end0-reads}
+use Rattle.intersection_set.proofs.Words.{pair-reads}
 use borrow.Author.Needs.{needs}
 use Rattle.intersection_set.proofs.intersection_set.edge0_at.Statement.{statement}
 use Rattle.intersection_set.proofs.intersection_set.edge0_at.Tie as tie
@@ -18,7 +19,8 @@ low1-requires : tie.Need-low1-requires
 low1-requires c κs = search needs
 
 returns : tie.Need-returns
-returns c = (λ j. record { lo = c .before .low0 .ensures j; hi = c .low1 .ensures j }) ∙ sym (end0-reads (now (c .before .before .before .before .args .ends)) (c .before .before .before .before .args .i))
+unfolding pairOf
+returns c = (λ j. record { lo = c .before .low0 .ensures j; hi = c .low1 .ensures j }) ∙ sym (ap (λ (p : Pair). p .e0) (pair-reads (now (c .before .before .before .before .args .ends)) (c .before .before .before .before .args .i)))
 
 pub edge0-at-spec : {M : Type 1} → statement M
 edge0-at-spec = tie.close (tie.spec mul-w shared-slice-read-w low0-requires low1-requires returns)

@@ -1,6 +1,7 @@
-use mathlib.Core.Path.{sym, _∙_}
+use mathlib.Core.Path.{sym, ap, _∙_}
+use Rattle.intersection_set.specs.Pool.{Pair, pairOf}
 use denote.Ref.{now}
-use Rattle.intersection_set.proofs.Words.{end1-reads}
+use Rattle.intersection_set.proofs.Words.{pair-reads}
 use borrow.Author.Needs.{needs}
 use Rattle.intersection_set.proofs.intersection_set.edge1_at.Statement.{statement}
 use Rattle.intersection_set.proofs.intersection_set.edge1_at.Tie as tie
@@ -18,7 +19,8 @@ low3-requires : tie.Need-low3-requires
 low3-requires c κs = search needs
 
 returns : tie.Need-returns
-returns c = (λ j. record { lo = c .before .low2 .ensures j; hi = c .low3 .ensures j }) ∙ sym (end1-reads (now (c .before .before .before .before .args .ends)) (c .before .before .before .before .args .i))
+unfolding pairOf
+returns c = (λ j. record { lo = c .before .low2 .ensures j; hi = c .low3 .ensures j }) ∙ sym (ap (λ (p : Pair). p .e1) (pair-reads (now (c .before .before .before .before .args .ends)) (c .before .before .before .before .args .i)))
 
 pub edge1-at-spec : {M : Type 1} → statement M
 edge1-at-spec = tie.close (tie.spec mul-w shared-slice-read-w low2-requires low3-requires returns)

@@ -4,9 +4,9 @@ use mathlib.Core.Path.{_∙_, subst⁻¹}
 use denote.Ref.{now}
 use Rattle.index_edge.specs.Edge.{Edge}
 use Rattle.index_edge.specs.Number.{edgeOf}
-use Rattle.intersection_set.specs.Pool.{Pool, lent, poolOf}
+use Rattle.intersection_set.specs.Pool.{Pool, pairOf, nextsIn, lent, poolOf}
 use Rattle.intersection_set.specs.declared.utils.Taken.{Taken}
-use Rattle.intersection_set.proofs.Words.{in-ends, in-nexts}
+use Rattle.intersection_set.proofs.Words.{in-words}
 use Rattle.intersection_set.proofs.Lengths.{slot-lt, take-ok, append-ok, edges-ok, links-ok, head-ok-1, head-ok-2, old-ok, old-ok-2, push-steps}
 use borrow.Author.Needs.{needs}
 use Rattle.intersection_set.proofs.intersection_set.push.Statement.{statement}
@@ -43,7 +43,7 @@ take-head-requires-2 : tie.Need-take-head-requires-2
 take-head-requires-2 c κs = let b = c .before .before .before .before .before .before .before .before .before .before .before .before .before .before .before .before .before .before .before .before .before in head-ok-2 (b .args .n) (e0 b) (e1 b) (pool b) _ (b .pre) (slot-in (c .before .before .before .before .before .before .before .before .before .before .before .before)) (c .before .before .before .take-head .ensures .1)
 
 put-record-requires : tie.Need-put-record-requires
-put-record-requires c κs = let b = c .before .before .before .before .before .before .before .before .before .before .before .before .before .before .before .before .before .before .before .before .before .before .before .before .before .before in (in-ends (now (b .args .ends)) _ (edges-ok (b .args .n) (e0 b) (e1 b) (pool b) _ (b .pre) (slot-in (c .before .before .before .before .before .before .before .before .before .before .before .before .before .before .before .before .before))), in-nexts (now (b .args .links)) _ (links-ok (b .args .n) (e0 b) (e1 b) (pool b) _ (b .pre) (slot-in (c .before .before .before .before .before .before .before .before .before .before .before .before .before .before .before .before .before))))
+put-record-requires c κs = let b = c .before .before .before .before .before .before .before .before .before .before .before .before .before .before .before .before .before .before .before .before .before .before .before .before .before .before in (in-words (now (b .args .ends)) _ pairOf (edges-ok (b .args .n) (e0 b) (e1 b) (pool b) _ (b .pre) (slot-in (c .before .before .before .before .before .before .before .before .before .before .before .before .before .before .before .before .before))), in-words (now (b .args .links)) _ nextsIn (links-ok (b .args .n) (e0 b) (e1 b) (pool b) _ (b .pre) (slot-in (c .before .before .before .before .before .before .before .before .before .before .before .before .before .before .before .before .before))))
 
 set-prev-requires : tie.Need-set-prev-requires
 set-prev-requires c κs = let b = c .before .before .before .before .before .before .before .before .before .before .before .before .before .before .before .before .before .before .before .before .before .before .before .before .before .before .before .before .before .before .before .before .before in old-ok (b .args .n) (e0 b) (e1 b) (pool b) _ (b .pre) (slot-in (c .before .before .before .before .before .before .before .before .before .before .before .before .before .before .before .before .before .before .before .before .before .before .before .before)) (c .before .before .before .before .before .before .put-record .ensures .0) (c .before .before .before .before .before .before .put-record .ensures .2) (c .before .before .before .before .before .before .before .before .before .before .before .before .before .before .before .take-head .ensures .0)

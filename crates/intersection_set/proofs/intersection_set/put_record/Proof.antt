@@ -3,8 +3,9 @@ use Prim.Native.Nat.{ℕ}
 use native.Mathlib.Omega.{arith}
 use denote.Ref.{now}
 use lib.ListN.{set}
+use mathlib.Core.List.{map}
 use Rattle.intersection_set.specs.Lists.{none}
-use Rattle.intersection_set.specs.Pool.{edgesOf, nextsOf, prevsOf}
+use Rattle.intersection_set.specs.Pool.{edgesOf, nextsIn, prevsIn}
 use Rattle.intersection_set.proofs.Words.{edges-stored, nexts-stored, prevs-stored, cleared}
 use borrow.Author.Needs.{needs}
 use Rattle.intersection_set.proofs.intersection_set.put_record.Statement.{statement}
@@ -43,8 +44,8 @@ returns c = let a = c .before .before .before .before .before .args in
     let e = a .isect in
     let g = c .before .before .before .before .before .good in (
       ap (λ (r : ℕ). edgesOf (set (now (a .ends)) s r)) (c .before .pack .ensures) ∙ edges-stored (now (a .ends)) s (e .min .min .0) (e .min .max .0) (e .max .min .0) (e .max .max .0) (omega (arith, g)) (omega (arith, g)) (omega (arith, g)),
-      ap (λ (r : ℕ). nextsOf (set (now (a .links)) s r)) (c .pack2 .ensures) ∙ nexts-stored (now (a .links)) s (a .next0 .0) none (a .next1 .0) none (omega (arith, g)) (omega arith) (omega (arith, g)),
-      ap (λ (r : ℕ). prevsOf (set (now (a .links)) s r)) (c .pack2 .ensures) ∙ prevs-stored (now (a .links)) s (a .next0 .0) none (a .next1 .0) none (omega (arith, g)) (omega arith) (omega (arith, g)) ∙ cleared s (prevsOf (now (a .links))),
+      ap (λ (r : ℕ). map nextsIn (set (now (a .links)) s r)) (c .pack2 .ensures) ∙ nexts-stored (now (a .links)) s (a .next0 .0) none (a .next1 .0) none (omega (arith, g)) (omega arith) (omega (arith, g)),
+      ap (λ (r : ℕ). map prevsIn (set (now (a .links)) s r)) (c .pack2 .ensures) ∙ prevs-stored (now (a .links)) s (a .next0 .0) none (a .next1 .0) none (omega (arith, g)) (omega arith) (omega (arith, g)) ∙ cleared s (map prevsIn (now (a .links))),
     )
 
 pub put-record-spec : {M : Type 1} → statement M

@@ -4,9 +4,8 @@ use native.Mathlib.Omega.{arith}
 use lib.ListN.{length, getD}
 use denote.Ref.{now}
 use mathlib.Core.Path.{_∙_}
-use Rattle.intersection_set.specs.Pool.{edgesOf}
-use Rattle.intersection_set.specs.Within.{InEdges}
-use Rattle.intersection_set.proofs.Words.{in-ends}
+use Rattle.intersection_set.specs.Pool.{pairOf, edgesOf}
+use Rattle.intersection_set.proofs.Words.{in-words}
 use Rattle.intersection_set.proofs.Picking.{pick-in-dense, pick-in-edges, picked-first, picked-second}
 use borrow.Author.Needs.{needs}
 use Rattle.intersection_set.proofs.intersection_set.random.Statement.{statement}
@@ -19,7 +18,7 @@ inside c = let q = c .pre .1 in pick-in-dense (q .0) (q .1) (q .2) (q .3) (q .4)
 abbrev slot : tie.Start → ℕ
 slot c = getD (c .args .dense .now) (c .args .pick % c .args .c .live) 0
 
-within : (c : tie.Start) → InEdges (slot c) (edgesOf (now (c .args .ends)))
+within : (c : tie.Start) → slot c < length (edgesOf (now (c .args .ends)))
 within c = let q = c .pre .1 in pick-in-edges (q .0) (q .1) (q .2) (q .3) (q .4) (q .5) (q .6) (c .args .pick) (c .pre .0)
 
 rem-at : tie.Need-rem-at
@@ -35,10 +34,10 @@ cast-i : tie.Need-cast-i
 cast-i c = search needs
 
 edge0-at-requires : tie.Need-edge0-at-requires
-edge0-at-requires c κs = in-ends (now (c .before .before .before .before .args .ends)) _ (within (c .before .before .before .before) .in-min0)
+edge0-at-requires c κs = in-words (now (c .before .before .before .before .args .ends)) _ pairOf (within (c .before .before .before .before))
 
 edge1-at-requires : tie.Need-edge1-at-requires
-edge1-at-requires c κs = in-ends (now (c .before .before .before .before .before .args .ends)) _ (within (c .before .before .before .before .before) .in-min0)
+edge1-at-requires c κs = in-words (now (c .before .before .before .before .before .args .ends)) _ pairOf (within (c .before .before .before .before .before))
 
 returns : tie.Need-returns
 returns c = λ n p s h ev ed ec. (

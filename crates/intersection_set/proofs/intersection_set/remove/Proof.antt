@@ -1,9 +1,9 @@
 -- `remove` meets its contract: each call's contract is one step of `poolRemove`, in the same order.
-use mathlib.Core.Path.{sym, _∙_}
+use mathlib.Core.Path.{sym, ap, _∙_}
 use denote.Ref.{now}
 use Rattle.index_edge.specs.Number.{edgeOf}
-use Rattle.intersection_set.specs.Pool.{Pool, lent, poolOf}
-use Rattle.intersection_set.proofs.Words.{in-ends, in-nexts, next0-reads, prev0-reads, next1-reads, prev1-reads}
+use Rattle.intersection_set.specs.Pool.{Ends, Pool, pairOf, nextsIn, prevsIn, lent, poolOf}
+use Rattle.intersection_set.proofs.Words.{in-words, nexts-read, prevs-read}
 use Rattle.intersection_set.proofs.Lengths.{ReadAt, unlink-ok, unlink-ok-2, remove-steps}
 use borrow.Author.Needs.{needs}
 use Rattle.intersection_set.proofs.intersection_set.remove.Statement.{statement}
@@ -17,32 +17,33 @@ pool c =
 
 -- what is read of the record
 read : (c : tie.After-low3) → let b = c .before .before .before .before .before .before .before .before .before .before .before .before .before .before in ReadAt (pool b) (b .args .s .0) (edgeOf (c .before .before .before .before .before .before .edge0-at .result)) (edgeOf (c .before .before .before .before .before .edge1-at .result)) (c .before .before .before .low0 .result) (c .before .before .low1 .result) (c .before .low2 .result) (c .low3 .result)
+unfolding nextsIn prevsIn
 read c =
     let l = now (c .before .before .before .before .before .before .before .before .before .before .before .before .before .before .args .links) in
     let s = c .before .before .before .before .before .before .before .before .before .before .before .before .before .before .args .s .0 in
     record {
       edge0 = c .before .before .before .before .before .before .edge0-at .ensures;
       edge1 = c .before .before .before .before .before .edge1-at .ensures;
-      next0 = c .before .before .before .low0 .ensures ∙ sym (next0-reads l s);
-      prev0 = c .before .before .low1 .ensures ∙ sym (prev0-reads l s);
-      next1 = c .before .low2 .ensures ∙ sym (next1-reads l s);
-      prev1 = c .low3 .ensures ∙ sym (prev1-reads l s);
+      next0 = c .before .before .before .low0 .ensures ∙ sym (ap (λ (k : Ends). k .x0) (nexts-read l s));
+      prev0 = c .before .before .low1 .ensures ∙ sym (ap (λ (k : Ends). k .x0) (prevs-read l s));
+      next1 = c .before .low2 .ensures ∙ sym (ap (λ (k : Ends). k .x1) (nexts-read l s));
+      prev1 = c .low3 .ensures ∙ sym (ap (λ (k : Ends). k .x1) (prevs-read l s));
     }
 
 cast-i : tie.Need-cast-i
 cast-i c = search needs
 
 edge0-at-requires : tie.Need-edge0-at-requires
-edge0-at-requires c κs = let b = c .before .before .before .before .before .before .before in in-ends (now (b .args .ends)) (b .args .s .0) (b .pre .in-edges .in-min0)
+edge0-at-requires c κs = let b = c .before .before .before .before .before .before .before in in-words (now (b .args .ends)) (b .args .s .0) pairOf (b .pre .in-edges)
 
 edge1-at-requires : tie.Need-edge1-at-requires
-edge1-at-requires c κs = let b = c .before .before .before .before .before .before .before .before in in-ends (now (b .args .ends)) (b .args .s .0) (b .pre .in-edges .in-min0)
+edge1-at-requires c κs = let b = c .before .before .before .before .before .before .before .before in in-words (now (b .args .ends)) (b .args .s .0) pairOf (b .pre .in-edges)
 
 mul-w : tie.Need-mul-w
 mul-w c = search needs
 
 slice-read-w : tie.Need-slice-read-w
-slice-read-w c = let b = c .before .before .before .before .before .before .before .before .before .before in in-nexts (now (b .args .links)) (b .args .s .0) (b .pre .in-links .in-next0)
+slice-read-w c = let b = c .before .before .before .before .before .before .before .before .before .before in in-words (now (b .args .links)) (b .args .s .0) nextsIn (b .pre .in-next)
 
 low0-requires : tie.Need-low0-requires
 low0-requires c κs = search needs

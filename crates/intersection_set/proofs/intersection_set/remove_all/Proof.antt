@@ -10,9 +10,9 @@ use denote.Ref.{now}
 use Rattle.algebra.specs.Cases.{not-true, not-false}
 use Rattle.index_edge.specs.Number.{edgeOf}
 use Rattle.intersection_set.specs.Lists.{none}
-use Rattle.intersection_set.specs.Pool.{Pool, lent, poolOf, headAt, poolRemove, poolRemoveAll}
+use Rattle.intersection_set.specs.Pool.{nextsIn, Pool, lent, poolOf, headAt, poolRemove, poolRemoveAll}
 use Rattle.intersection_set.specs.Within.{RemoveOk, Drained}
-use Rattle.intersection_set.proofs.Words.{same-links}
+use Rattle.intersection_set.proofs.Words.{as-many}
 use Rattle.intersection_set.proofs.Lengths.{SameSize, same-self, same-trans, sizes-remove, live-remove, drained-next, all-none, all-some}
 use Rattle.intersection_set.proofs.PastTheEnd.{beyond-words}
 use Rattle.intersection_set.proofs.Removing.{drained, head-there, removed-holds, removed-beyond}
@@ -112,7 +112,7 @@ same-length : tie.Need-same-length Inv-loop μ-loop
 same-length c = c .before .before .loop .inv .3 .heads
 
 same-length-2 : tie.Need-same-length-2 Inv-loop μ-loop
-same-length-2 c = same-links (c .before .before .loop .links) (now (c .before .before .before .before .before .before .before .before .before .before .before .args .links)) (c .before .before .loop .inv .3 .next0)
+same-length-2 c = as-many nextsIn (c .before .before .loop .links) (now (c .before .before .before .before .before .before .before .before .before .before .before .args .links)) (c .before .before .loop .inv .3 .next)
 
 same-length-3 : tie.Need-same-length-3 Inv-loop μ-loop
 same-length-3 c = c .before .before .loop .inv .3 .dense

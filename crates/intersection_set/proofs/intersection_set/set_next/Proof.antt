@@ -7,8 +7,8 @@ use denote.Ref.{now}
 use Rattle.index_edge.specs.Edge.{eqE}
 use Rattle.index_edge.specs.Number.{edgeOf}
 use Rattle.intersection_set.specs.Lists.{none}
-use Rattle.intersection_set.specs.Pool.{setEnd}
-use Rattle.intersection_set.proofs.Words.{in-ends, in-nexts, next-set}
+use Rattle.intersection_set.specs.Pool.{pairOf, edgesOf, nextsIn, setEnd}
+use Rattle.intersection_set.proofs.Words.{in-words, next-set}
 use borrow.Author.Needs.{needs}
 use Rattle.intersection_set.proofs.intersection_set.set_next.Statement.{statement}
 use Rattle.intersection_set.proofs.intersection_set.set_next.Tie as tie
@@ -27,7 +27,7 @@ cast-i : tie.Need-cast-i
 cast-i c = search needs
 
 edge0-at-requires : tie.Need-edge0-at-requires
-edge0-at-requires c κs = in-ends (now (c .before .before .before .before .before .args .ends)) (c .before .before .before .before .before .args .s .0) (c .before .before .before .before .before .pre .in-min0 (is-slot c))
+edge0-at-requires c κs = in-words (now (c .before .before .before .before .before .args .ends)) (c .before .before .before .before .before .args .s .0) pairOf (c .before .before .before .before .before .pre .in-edges (is-slot c))
 
 eq-requires : tie.Need-eq-requires
 eq-requires c κs = search needs
@@ -36,7 +36,7 @@ mul-w : tie.Need-mul-w
 mul-w c = search needs
 
 slice-read-w : tie.Need-slice-read-w
-slice-read-w c = in-nexts (now (c .before .before .before .before .before .before .before .before .args .links)) (c .before .before .before .before .before .before .before .before .args .s .0) (c .before .before .before .before .before .before .before .before .pre .in-x0 (is-slot (c .before .before .before)))
+slice-read-w c = in-words (now (c .before .before .before .before .before .before .before .before .args .links)) (c .before .before .before .before .before .before .before .before .args .s .0) nextsIn (c .before .before .before .before .before .before .before .before .pre .in-ends (is-slot (c .before .before .before)))
 
 with-next-requires : tie.Need-with-next-requires
 with-next-requires c κs = search needs
@@ -45,14 +45,14 @@ mul-links : tie.Need-mul-links
 mul-links c = search needs
 
 slice-write-links : tie.Need-slice-write-links
-slice-write-links c = in-nexts (now (c .before .before .before .before .before .before .before .before .before .args .links)) (c .before .before .before .before .before .before .before .before .before .args .s .0) (c .before .before .before .before .before .before .before .before .before .pre .in-x0 (is-slot (c .before .before .before .before)))
+slice-write-links c = in-words (now (c .before .before .before .before .before .before .before .before .before .args .links)) (c .before .before .before .before .before .before .before .before .before .args .s .0) nextsIn (c .before .before .before .before .before .before .before .before .before .pre .in-ends (is-slot (c .before .before .before .before)))
 
 same-length : tie.Need-same-length
 same-length c = search needs
 
 returns-2 : tie.Need-returns-2
 returns-2 c = let a = c .before .before .before .before .before .before .before .before .before .args in
-    next-set (now (a .ends)) (now (a .links)) (a .s .0) (edgeOf (a .e)) (a .v .0) (is-slot (c .before .before .before .before)) (omega (arith, c .before .before .before .before .before .before .before .before .before .good)) (c .before .before .eq .ensures ∙ ap (eqE (edgeOf (a .e))) (c .before .before .before .edge0-at .ensures)) (c .with-next .ensures)
+    next-set (edgesOf (now (a .ends))) (now (a .links)) (a .s .0) (edgeOf (a .e)) (a .v .0) (is-slot (c .before .before .before .before)) (omega (arith, c .before .before .before .before .before .before .before .before .before .good)) (c .before .before .eq .ensures ∙ ap (eqE (edgeOf (a .e))) (c .before .before .before .edge0-at .ensures)) (c .with-next .ensures)
 
 pub set-next-spec : {M : Type 1} → statement M
 set-next-spec =

@@ -7,8 +7,8 @@ use denote.Ref.{now}
 use Rattle.index_edge.specs.Edge.{eqE}
 use Rattle.index_edge.specs.Number.{edgeOf}
 use Rattle.intersection_set.specs.Lists.{none}
-use Rattle.intersection_set.specs.Pool.{setEnd}
-use Rattle.intersection_set.proofs.Words.{in-ends, in-prevs, prev-set}
+use Rattle.intersection_set.specs.Pool.{pairOf, edgesOf, prevsIn, setEnd}
+use Rattle.intersection_set.proofs.Words.{in-words, prev-set}
 use borrow.Author.Needs.{needs}
 use Rattle.intersection_set.proofs.intersection_set.set_prev.Statement.{statement}
 use Rattle.intersection_set.proofs.intersection_set.set_prev.Tie as tie
@@ -27,7 +27,7 @@ cast-i : tie.Need-cast-i
 cast-i c = search needs
 
 edge0-at-requires : tie.Need-edge0-at-requires
-edge0-at-requires c κs = in-ends (now (c .before .before .before .before .before .args .ends)) (c .before .before .before .before .before .args .s .0) (c .before .before .before .before .before .pre .in-min0 (is-slot c))
+edge0-at-requires c κs = in-words (now (c .before .before .before .before .before .args .ends)) (c .before .before .before .before .before .args .s .0) pairOf (c .before .before .before .before .before .pre .in-edges (is-slot c))
 
 eq-requires : tie.Need-eq-requires
 eq-requires c κs = search needs
@@ -36,7 +36,7 @@ mul-w : tie.Need-mul-w
 mul-w c = search needs
 
 slice-read-w : tie.Need-slice-read-w
-slice-read-w c = in-prevs (now (c .before .before .before .before .before .before .before .before .args .links)) (c .before .before .before .before .before .before .before .before .args .s .0) (c .before .before .before .before .before .before .before .before .pre .in-x0 (is-slot (c .before .before .before)))
+slice-read-w c = in-words (now (c .before .before .before .before .before .before .before .before .args .links)) (c .before .before .before .before .before .before .before .before .args .s .0) prevsIn (c .before .before .before .before .before .before .before .before .pre .in-ends (is-slot (c .before .before .before)))
 
 with-prev-requires : tie.Need-with-prev-requires
 with-prev-requires c κs = search needs
@@ -45,14 +45,14 @@ mul-links : tie.Need-mul-links
 mul-links c = search needs
 
 slice-write-links : tie.Need-slice-write-links
-slice-write-links c = in-prevs (now (c .before .before .before .before .before .before .before .before .before .args .links)) (c .before .before .before .before .before .before .before .before .before .args .s .0) (c .before .before .before .before .before .before .before .before .before .pre .in-x0 (is-slot (c .before .before .before .before)))
+slice-write-links c = in-words (now (c .before .before .before .before .before .before .before .before .before .args .links)) (c .before .before .before .before .before .before .before .before .before .args .s .0) prevsIn (c .before .before .before .before .before .before .before .before .before .pre .in-ends (is-slot (c .before .before .before .before)))
 
 same-length : tie.Need-same-length
 same-length c = search needs
 
 returns-2 : tie.Need-returns-2
 returns-2 c = let a = c .before .before .before .before .before .before .before .before .before .args in
-    prev-set (now (a .ends)) (now (a .links)) (a .s .0) (edgeOf (a .e)) (a .v .0) (is-slot (c .before .before .before .before)) (omega (arith, c .before .before .before .before .before .before .before .before .before .good)) (c .before .before .eq .ensures ∙ ap (eqE (edgeOf (a .e))) (c .before .before .before .edge0-at .ensures)) (c .with-prev .ensures)
+    prev-set (edgesOf (now (a .ends))) (now (a .links)) (a .s .0) (edgeOf (a .e)) (a .v .0) (is-slot (c .before .before .before .before)) (omega (arith, c .before .before .before .before .before .before .before .before .before .good)) (c .before .before .eq .ensures ∙ ap (eqE (edgeOf (a .e))) (c .before .before .before .edge0-at .ensures)) (c .with-prev .ensures)
 
 pub set-prev-spec : {M : Type 1} → statement M
 set-prev-spec =

@@ -1,7 +1,8 @@
 use mathlib.Core.Path.{_≡_, ap, _∙_, subst⁻¹}
+use mathlib.Core.List.{List}
 use denote.Ref.{now}
 use Rattle.index_edge.specs.Number.{edgeOf}
-use Rattle.intersection_set.specs.Pool.{Ends, edgesOf, prevsOf, setEnd, unlinkFrom}
+use Rattle.intersection_set.specs.Pool.{Ends, edgesOf, setEnd, unlinkFrom}
 use Rattle.intersection_set.specs.Within.{EndOk}
 use borrow.Author.Needs.{needs}
 use Rattle.intersection_set.proofs.intersection_set.unlink.Statement.{statement}
@@ -14,7 +15,7 @@ set-next-requires : tie.Need-set-next-requires
 set-next-requires c κs = search needs
 
 set-prev-requires : tie.Need-set-prev-requires
-set-prev-requires c κs = let b = c .before .before .before .before .before .before .before .before .before .before .before .before in subst⁻¹ (λ (x : Ends). EndOk (b .args .next .0) (edgesOf (now (b .args .ends)) .min0) (edgesOf (now (b .args .ends)) .max0) x) (c .before .before .before .set-next .ensures .1) (b .pre .second)
+set-prev-requires c κs = let b = c .before .before .before .before .before .before .before .before .before .before .before .before in subst⁻¹ (λ (x : List Ends). EndOk (b .args .next .0) (edgesOf (now (b .args .ends))) x) (c .before .before .before .set-next .ensures .1) (b .pre .second)
 
 same-length : tie.Need-same-length
 same-length c = search needs
@@ -29,7 +30,7 @@ returns c = let a = c .before .before .before .before .before .before .before .b
     record {
       heads = c .before .before .before .before .before .before .before .before .before .before .set-head .ensures i;
       next = (c .before .before .set-prev .ensures .1 ∙ c .before .before .before .before .before .before .set-next .ensures .0) i;
-      prev = (c .before .before .set-prev .ensures .0 ∙ ap (λ (x : Ends). setEnd (a .next .0) (edgeOf (a .e)) (a .prev .0) (edgesOf (now (a .ends)) .min0) (edgesOf (now (a .ends)) .max0) x) (c .before .before .before .before .before .before .set-next .ensures .1)) i;
+      prev = (c .before .before .set-prev .ensures .0 ∙ ap (λ (x : List Ends). setEnd (a .next .0) (edgeOf (a .e)) (a .prev .0) (edgesOf (now (a .ends))) x) (c .before .before .before .before .before .before .set-next .ensures .1)) i;
     }
 
 pub unlink-spec : {M : Type 1} → statement M
