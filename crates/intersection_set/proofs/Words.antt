@@ -15,44 +15,34 @@ use Rattle.intersection_set.specs.Words.{packed, part0, part1, part2, pa
 use Rattle.intersection_set.specs.Pool.{Ends, ends, noEnds, Pair, pair, noPair, pairOf, edgesOf, nextsIn, prevsIn, end0, putEnd, setEnd, putEdges, putEnds, clearEnds}
 
 pub part0-small : (w : ℕ) → part0 w < 65536
-unfolding part0
 part0-small w = omega arith
 
 pub part1-small : (w : ℕ) → part1 w < 65536
-unfolding part1
 part1-small w = omega arith
 
 pub part2-small : (w : ℕ) → part2 w < 65536
-unfolding part2
 part2-small w = omega arith
 
 pub part3-small : (w : ℕ) → w < 18446744073709551616 → part3 w < 65536
-unfolding part3
 part3-small w h = omega arith
 
 module _ (a b c d : ℕ) (ha : a < 65536) (hb : b < 65536) (hc : c < 65536) where
   pub part0-of : part0 (packed a b c d) ≡ a
-  unfolding part0 packed
   part0-of = omega arith
 
   pub part1-of : part1 (packed a b c d) ≡ b
-  unfolding part1 packed
   part1-of = omega arith
 
   pub part2-of : part2 (packed a b c d) ≡ c
-  unfolding part2 packed
   part2-of = omega arith
 
   pub part3-of : part3 (packed a b c d) ≡ d
-  unfolding part3 packed
   part3-of = omega arith
 
 pub packed-parts : (w : ℕ) → packed (part0 w) (part1 w) (part2 w) (part3 w) ≡ w
-unfolding part0 part1 part2 part3 packed
 packed-parts w = omega arith
 
 pub packed-small : (a b c d : ℕ) → a < 65536 → b < 65536 → c < 65536 → d < 65536 → packed a b c d < 18446744073709551616
-unfolding packed
 packed-small a b c d ha hb hc hd = omega arith
 
 -- ---- one number of a word anew, at the unit u of its place
@@ -72,12 +62,12 @@ module _ (w v : ℕ) (hw : w < 18446744073709551616) (hv : v < 65536) where
   anew-prev false = record { some = omega arith; part = omega arith; fits = omega arith; whole = omega arith }
 
   pub next-anew : (first : Bool) → w - w / cond first 1 4294967296 % 65536 * cond first 1 4294967296 + v * cond first 1 4294967296 ≡ withNext first w v
-  unfolding withNext packed part0 part1 part2 part3
+  unfolding withNext
   next-anew true = omega arith
   next-anew false = omega arith
 
   pub prev-anew : (first : Bool) → w - w / cond first 65536 281474976710656 % 65536 * cond first 65536 281474976710656 + v * cond first 65536 281474976710656 ≡ withPrev first w v
-  unfolding withPrev packed part0 part1 part2 part3
+  unfolding withPrev
   prev-anew true = omega arith
   prev-anew false =
       let q : w / 281474976710656 < 65536 = omega arith in
@@ -90,15 +80,15 @@ module _ (l : List ℕ) (i : ℕ) where
   in-words f h = subst (λ (k : ℕ). i < k) (length-map l f) h
 
   pub pair-reads : getD (edgesOf l) i noPair ≡ pairOf (getD l i 0)
-  unfolding pairOf part0 part1 part2 part3
+  unfolding pairOf
   pair-reads = List·getD-map pairOf l i 0
 
   pub nexts-read : getD (map nextsIn l) i noEnds ≡ nextsIn (getD l i 0)
-  unfolding nextsIn part0 part2
+  unfolding nextsIn
   nexts-read = List·getD-map nextsIn l i 0
 
   pub prevs-read : getD (map prevsIn l) i noEnds ≡ prevsIn (getD l i 0)
-  unfolding prevsIn part1 part3
+  unfolding prevsIn
   prevs-read = List·getD-map prevsIn l i 0
 
 pub as-many : {A : Type 0} (f : ℕ → A) (l k : List ℕ) → length (map f l) ≡ length (map f k) → length l ≡ length k

@@ -2,19 +2,19 @@
 use mathlib.Core.Bool.{Bool, cond}
 use Prim.Native.Nat.{ℕ, _+_, _*_, _/_, _%_}
 
-unfoldable pub packed : ℕ → ℕ → ℕ → ℕ → ℕ
+abbrev pub packed : ℕ → ℕ → ℕ → ℕ → ℕ
 packed a b c d = a + b * 65536 + c * 4294967296 + d * 281474976710656
 
-unfoldable pub part0 : ℕ → ℕ
+abbrev pub part0 : ℕ → ℕ
 part0 w = w % 65536
 
-unfoldable pub part1 : ℕ → ℕ
+abbrev pub part1 : ℕ → ℕ
 part1 w = w / 65536 % 65536
 
-unfoldable pub part2 : ℕ → ℕ
+abbrev pub part2 : ℕ → ℕ
 part2 w = w / 4294967296 % 65536
 
-unfoldable pub part3 : ℕ → ℕ
+abbrev pub part3 : ℕ → ℕ
 part3 w = w / 281474976710656
 
 -- a word of links with the next link of one end anew, or the previous one
