@@ -4,9 +4,8 @@ ghost use mathlib.Core.List.{List};
 ghost use Prim.Native.Nat.{ℕ};
 ghost use lib.ListN.{take};
 ghost use Rattle.algebra.specs.Ranges.{upFrom};
-ghost use Rattle.geometry.specs.Lent.{points};
-ghost use Rattle.machine.specs.Answer.{call};
-ghost use Rattle.two_opt.specs.Entry.{answerOf, shortOf, Leaves};
+ghost use Rattle.machine.specs.Answer.{Answer as Told};
+ghost use Rattle.two_opt.specs.Entry.{answerOf, loan, Entry};
 ghost use Rattle.intersection_set.specs.Pool.{lent};
 ghost use Rattle.host.specs.Numbers.{inNumbers};
 use two_opt::entries::Answer;
@@ -64,8 +63,10 @@ pub extern "C" fn tour_two_opt_moves(
     reverse: &mut [u16],
     free: &mut [u16],
 ) -> TourAnswer
-    ensures { λ r. ⌜ (r ≡ inNumbers (call n (points (now (x .entry)) (now (y .entry))) (shortOf n (now (x .entry)) (now (y .entry)) (now (ring .entry)) (now (index .entry)) (lent (now (heads .entry)) (now (ends .entry)) (now (links .entry)) (now (dense .entry)) (now (reverse .entry)) (now (free .entry)))) (upFrom 0 n) (now (picks .entry))))
-        × Leaves n (points (now (x .entry)) (now (y .entry))) (shortOf n (now (x .entry)) (now (y .entry)) (now (ring .entry)) (now (index .entry)) (lent (now (heads .entry)) (now (ends .entry)) (now (links .entry)) (now (dense .entry)) (now (reverse .entry)) (now (free .entry)))) (upFrom 0 n) (now (picks .entry)) (now (ring .entry)) (now (index .entry)) (lent (now (heads .entry)) (now (ends .entry)) (now (links .entry)) (now (dense .entry)) (now (reverse .entry)) (now (free .entry))) (now (ring .exit)) (now (index .exit)) (lent (now (heads .exit)) (now (ends .exit)) (now (links .exit)) (now (dense .exit)) (now (reverse .exit)) (now (free .exit))) ⌝ }
+    ensures { λ r.
+        let was = loan (now (ring .entry)) (now (index .entry)) (lent (now (heads .entry)) (now (ends .entry)) (now (links .entry)) (now (dense .entry)) (now (reverse .entry)) (now (free .entry))) in
+        let is = loan (now (ring .exit)) (now (index .exit)) (lent (now (heads .exit)) (now (ends .exit)) (now (links .exit)) (now (dense .exit)) (now (reverse .exit)) (now (free .exit))) in
+        ⌜ ((a : Told) × (r ≡ inNumbers a) × Entry n (now (x .entry)) (now (y .entry)) (upFrom 0 n) (now (picks .entry)) was is a) ⌝ }
 {
     in_numbers(two_opt_moves(
         n,
@@ -99,8 +100,10 @@ pub extern "C" fn tour_resolve_self_intersections(
     reverse: &mut [u16],
     free: &mut [u16],
 ) -> TourAnswer
-    ensures { λ r. ⌜ (r ≡ inNumbers (call n (points (now (x .entry)) (now (y .entry))) (shortOf n (now (x .entry)) (now (y .entry)) (now (ring .entry)) (now (index .entry)) (lent (now (heads .entry)) (now (ends .entry)) (now (links .entry)) (now (dense .entry)) (now (reverse .entry)) (now (free .entry)))) (take n (now (ring .entry))) (now (picks .entry))))
-        × Leaves n (points (now (x .entry)) (now (y .entry))) (shortOf n (now (x .entry)) (now (y .entry)) (now (ring .entry)) (now (index .entry)) (lent (now (heads .entry)) (now (ends .entry)) (now (links .entry)) (now (dense .entry)) (now (reverse .entry)) (now (free .entry)))) (take n (now (ring .entry))) (now (picks .entry)) (now (ring .entry)) (now (index .entry)) (lent (now (heads .entry)) (now (ends .entry)) (now (links .entry)) (now (dense .entry)) (now (reverse .entry)) (now (free .entry))) (now (ring .exit)) (now (index .exit)) (lent (now (heads .exit)) (now (ends .exit)) (now (links .exit)) (now (dense .exit)) (now (reverse .exit)) (now (free .exit))) ⌝ }
+    ensures { λ r.
+        let was = loan (now (ring .entry)) (now (index .entry)) (lent (now (heads .entry)) (now (ends .entry)) (now (links .entry)) (now (dense .entry)) (now (reverse .entry)) (now (free .entry))) in
+        let is = loan (now (ring .exit)) (now (index .exit)) (lent (now (heads .exit)) (now (ends .exit)) (now (links .exit)) (now (dense .exit)) (now (reverse .exit)) (now (free .exit))) in
+        ⌜ ((a : Told) × (r ≡ inNumbers a) × Entry n (now (x .entry)) (now (y .entry)) (take n (now (ring .entry))) (now (picks .entry)) was is a) ⌝ }
 {
     in_numbers(resolve_self_intersections(
         n,

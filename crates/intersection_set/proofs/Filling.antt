@@ -1,13 +1,15 @@
 -- The heads filled with none, from the first on.
 use mathlib.Core.Path.{_≡_, refl, ap, _∙_}
-use mathlib.Core.List.{List, _∷_, _++_}
+use mathlib.Core.List.{List, _∷_, _++_, append-nil}
 use Prim.Native.Nat.{ℕ, zero, suc, _+_, _<_}
 use native.Mathlib.Numerals.{add-one}
-use native.Mathlib.Omega.{arith}
-use lib.ListN.{length, getD, set, drop, replicate, length-replicate, getD-replicate, List·getD-append}
-use lib.Seq.{drop-cons, drop-at, set-at}
+use lib.ListN.{length, getD, set, drop, replicate, length-replicate}
+use lib.Seq.{drop-cons, drop-length, set-at}
 use Rattle.intersection_set.specs.Lists.{none}
-use Rattle.intersection_set.specs.Pool.{fill}
+
+-- the first m heads are none
+unfoldable pub fill : ℕ → List ℕ → List ℕ
+fill m l = replicate m none ++ drop m l
 
 replicate-snoc : (i a : ℕ) (l : List ℕ) → replicate i a ++ a ∷ l ≡ a ∷ replicate i a ++ l
 replicate-snoc zero a l = refl
@@ -23,11 +25,6 @@ fill-suc i l h =
     rw (add-one, drop-cons l i 0 h)
     (set-at (replicate i none) (getD l i 0) (drop (suc i) l) none i (length-replicate i none) ∙ replicate-snoc i none (drop (suc i) l))
 
-pub fill-at : (m : ℕ) (l : List ℕ) (i : ℕ) → i < m → getD (fill m l) i 0 ≡ none
+pub fill-all : (l : List ℕ) → fill (length l) l ≡ replicate (length l) none
 unfolding fill
-fill-at m l i h =
-    List·getD-append (replicate m none) (drop m l) 0 i (omega (arith, length-replicate {A = ℕ} m none)) ∙ getD-replicate m i none 0 h
-
-pub fill-past : (m : ℕ) (l : List ℕ) → drop m (fill m l) ≡ drop m l
-unfolding fill
-fill-past m l = drop-at (replicate m none) (drop m l) m (length-replicate m none)
+fill-all l = ap (λ (k : List ℕ). replicate (length l) none ++ k) (drop-length l) ∙ append-nil (replicate (length l) none)

@@ -4,7 +4,7 @@ use mathlib.Core.Logic.{_≢_}
 use mathlib.Core.List.{List}
 use mathlib.Core.Bool.{Bool, true, false, cond}
 use Prim.Native.Nat.{ℕ, zero, suc, _+_, _-_, _*_, _<_, _≤_}
-use native.Mathlib.Nat.{mul-le-mul, lt-of-lt-of-le}
+use native.Mathlib.Nat.{mul-le-mul}
 use native.Mathlib.Omega.{arith}
 use lib.Dec.{eqb}
 use lib.ListN.{length, getD, set, length-set}
@@ -23,6 +23,10 @@ use Rattle.intersection_set.proofs.HeadPlaces.{placed, head-below}
 -- 256 points have at most 65,280 records
 pub cap-small : {n : ℕ} → n ≤ 256 → n * (n - 1) ≤ 65280
 cap-small {n} h = let k : n - 1 ≤ 255 = omega arith in mul-le-mul h k
+
+-- what is below the number of entries is inside
+pub inside-of : {i m k : ℕ} → i < m → k ≡ m → i < k
+inside-of h e = omega arith
 
 pub place-lt : (n : ℕ) (e : Edge) → Proper n e → headPlace n e < n * (n - 1)
 place-lt n e ok = head-below n e (placed ok)
@@ -64,11 +68,11 @@ len-head n e x v hs = go (eqb v none)
     go true = length-set hs (headPlace n e) x
     go false = refl
 
-pub end-ok : {w : List Pair} {x : List Ends} (s cap : ℕ) → (s ≢ none → s < cap) → cap ≤ length w → cap ≤ length x → EndOk s w x
-end-ok s cap h p q = record { in-edges = λ z. lt-of-lt-of-le (h z) p; in-ends = λ z. lt-of-lt-of-le (h z) q }
+pub end-ok : {w : List Pair} {x : List Ends} (s cap : ℕ) → (s ≢ none → s < cap) → length w ≡ cap → length x ≡ cap → EndOk s w x
+end-ok s cap h p q = record { in-edges = λ z. inside-of (h z) p; in-ends = λ z. inside-of (h z) q }
 
-pub head-ok : {n : ℕ} {e : Edge} {heads : List ℕ} → n ≤ 256 → Proper n e → n * (n - 1) ≤ length heads → HeadOk n e heads
-head-ok {n} {e} small ok long = record { small = small; edge = ok; place = lt-of-lt-of-le (place-lt n e ok) long }
+pub head-ok : {n : ℕ} {e : Edge} {heads : List ℕ} → n ≤ 256 → Proper n e → length heads ≡ n * (n - 1) → HeadOk n e heads
+head-ok {n} {e} small ok long = record { small = small; edge = ok; place = inside-of (place-lt n e ok) long }
 
 -- a head after a store: what stood there, or the slot that was stored
 pub head-set : (hs : List ℕ) (i j v cap : ℕ) → i < length hs → v < cap → (getD hs j 0 ≢ none → getD hs j 0 < cap) → getD (set hs i v) j 0 ≢ none → getD (set hs i v) j 0 < cap
@@ -81,13 +85,13 @@ module _ (n : ℕ) (e0 e1 : Edge) (p : Pool) (s : ℕ) (ok : PushOk n e0 e1 p) (
   pub append-ok : AppendOk s (p .counts .live) (p .order)
   append-ok =
       let k = cap-small (ok .good .small) in
-      record { fits = omega (arith, ok .room); in-dense = lt-of-lt-of-le (ok .room) (ok .good .sizes .in-dense); in-reverse = lt-of-lt-of-le hs (ok .good .sizes .in-reverse) }
+      record { fits = omega (arith, ok .room); in-dense = inside-of (ok .room) (ok .good .sizes .in-dense); in-reverse = inside-of hs (ok .good .sizes .in-reverse) }
 
   pub edges-ok : s < length (p .edges)
-  edges-ok = lt-of-lt-of-le hs (ok .good .sizes .in-edges)
+  edges-ok = inside-of hs (ok .good .sizes .in-edges)
 
   pub links-ok : s < length (p .links .next)
-  links-ok = lt-of-lt-of-le hs (ok .good .sizes .in-next)
+  links-ok = inside-of hs (ok .good .sizes .in-next)
 
   pub head-ok-1 : HeadOk n e0 (p .links .heads)
   head-ok-1 = head-ok (ok .good .small) (ok .edge0) (ok .good .sizes .in-heads)
@@ -110,7 +114,7 @@ module _ (n : ℕ) (e0 e1 : Edge) (p : Pool) (s : ℕ) (ok : PushOk n e0 e1 p) (
   old-linked =
       let g = ok .good in
       let z = g .sizes in
-      let h0 = lt-of-lt-of-le (place-lt n e0 (ok .edge0)) (z .in-heads) in
+      let h0 = inside-of (place-lt n e0 (ok .edge0)) (z .in-heads) in
       end-ok _ (n * (n - 1)) (head-set (p .links .heads) (headPlace n e0) (headPlace n e1) s (n * (n - 1)) h0 hs (g .head e1 (ok .edge1))) (simp length-set (z .in-edges)) (simp (len-ends, length-set) (z .in-prev))
 
   -- the same of what the code's steps leave

@@ -12,7 +12,6 @@ pub mod ReadOff
 pub mod Alike
 pub mod Views
 pub mod Holding
-pub mod PastTheEnd
 pub mod Pushing
 pub mod Removing
 pub mod Starting

@@ -3,13 +3,14 @@ use mathlib.Core.Path.{_≡_, sym, ap, subst, _∙_}
 use mathlib.Core.List.{List}
 use Prim.Native.Nat.{ℕ, _-_, _*_, _%_, _<_}
 use native.Mathlib.Omega.{arith}
-use native.Mathlib.Nat.{mod-lt, lt-of-lt-of-le}
+use native.Mathlib.Nat.{mod-lt}
 use lib.ListN.{length, getD}
 use Rattle.intersection_set.specs.Store.{Store, noRec, chosen}
 use Rattle.intersection_set.specs.Pool.{Pair, Pool, end0, end1}
 use Rattle.intersection_set.specs.Holds.{Holds}
 use Rattle.intersection_set.specs.declared.utils.Counts.{Counts}
 use Rattle.intersection_set.proofs.Slots.{slot-below}
+use Rattle.intersection_set.proofs.Lengths.{inside-of}
 
 module _ (n : ℕ) (p : Pool) (s : Store) (h : Holds n p s) (k : ℕ) (some : 0 < p .counts .live) where
   is-chosen : k % p .counts .live ≡ chosen k s
@@ -28,7 +29,7 @@ module _ (n : ℕ) (p : Pool) (s : Store) (h : Holds n p s) (k : ℕ) (some : 0 
   in-dense = omega (arith, is-chosen, chosen-live, h .stored .room, h .stored .sizes .in-dense)
 
   in-edges : getD (p .order .dense) (k % p .counts .live) 0 < length (p .edges)
-  in-edges = lt-of-lt-of-le slot-lt (h .stored .sizes .in-edges)
+  in-edges = inside-of slot-lt (h .stored .sizes .in-edges)
 
   first-is : end0 (p .edges) (getD (p .order .dense) (k % p .counts .live) 0) ≡ getD (s .dense) (chosen k s) noRec .e0
   first-is = ap (end0 (p .edges)) slot-is ∙ h .stored .held (chosen k s) chosen-live .0

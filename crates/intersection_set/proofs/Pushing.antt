@@ -5,7 +5,6 @@ use mathlib.Core.Bool.{Bool, true, false, not, cond, true≢false}
 use mathlib.Core.List.{List, [], _∷_, map}
 use Prim.Native.Nat.{ℕ, suc, _+_, _-_, _*_, _≤_, _<_}
 use native.Mathlib.Omega.{arith}
-use native.Mathlib.Nat.{lt-of-lt-of-le}
 use borrow.Author.Tests.{eqb-true, eqb-false, eq-eqb, ne-eqb}
 use lib.Dec.{eqb, ltb}
 use lib.ListN.{length, getD, set, length-set, List·getD-append}
@@ -28,9 +27,8 @@ use Rattle.intersection_set.proofs.Chains.{Links, Chain, cond-fun, eith
 use Rattle.intersection_set.proofs.HeadPlaces.{placed}
 use Rattle.intersection_set.proofs.Alike.{Same, same-then, front-same}
 use Rattle.intersection_set.proofs.Views.{view, At, link-is}
-use Rattle.intersection_set.proofs.Lengths.{cap-small, len-ends, sizes-push, sized-same}
+use Rattle.intersection_set.proofs.Lengths.{inside-of, cap-small, len-ends, sizes-push, sized-same}
 use Rattle.intersection_set.proofs.Holding.{each-push, differ, Near, reach, LiveAt, chain-live, near-head, rep-same, holds-good, lists, lists-of, holds-of}
-use Rattle.intersection_set.proofs.PastTheEnd.{Past, beyond-push}
 
 abbrev pub newRec : Edge → Edge → Store → Rec
 newRec a b s = recFor a b (s .pushes) (slotFor (s .free) (length (s .dense)))
@@ -89,7 +87,7 @@ pub record Long (m : ℕ) (l : pool.Links) : Type 0 where
   pub prev : m ≤ length (l .prev)
 
 pub long-sized : {n : ℕ} {p : Pool} → Sized n p → Long (n * (n - 1)) (p .links)
-long-sized z = record { heads = z .in-heads; next = z .in-next; prev = z .in-prev }
+long-sized z = record { heads = omega (arith, z .in-heads); next = omega (arith, z .in-next); prev = omega (arith, z .in-prev) }
 
 long-cleared : (m x : ℕ) (l : pool.Links) → Long m l → Long m (cleared x l)
 long-cleared m x l h =
@@ -113,7 +111,7 @@ module _ (n : ℕ) (p : Pool) (s : Store) (h : Stored n p s) (rep : lists n p s)
   wrote-other y d = let q = getD-set-other (p .edges) (r .slot) y (pair (r .e0) (r .e1)) noPair d in (ap (λ (k : Pair). k .e0) q, ap (λ (k : Pair). k .e1) q)
 
   wrote-here : HeldIn (wrote r (p .edges)) r
-  wrote-here = let q = getD-set-same (p .edges) (r .slot) (pair (r .e0) (r .e1)) noPair (lt-of-lt-of-le xm (h .sizes .in-edges)) in (ap (λ (k : Pair). k .e0) q, ap (λ (k : Pair). k .e1) q)
+  wrote-here = let q = getD-set-same (p .edges) (r .slot) (pair (r .e0) (r .e1)) noPair (inside-of xm (h .sizes .in-edges)) in (ap (λ (k : Pair). k .e0) q, ap (λ (k : Pair). k .e1) q)
 
   wrote-held : Each (HeldIn (wrote r (p .edges))) (s .dense)
   wrote-held j i = (wrote-other _ (new j i) .0 ∙ h .held j i .0, wrote-other _ (new j i) .1 ∙ h .held j i .1)
@@ -198,7 +196,7 @@ module _ (n : ℕ) (p : Pool) (s : Store) (h : Stored n p s) (rep : lists n p s)
       let rep1 : Rep none (Placed n) s k = wrote-rep n p s h rep r xm new-slot in
       let long : Long (n * (n - 1)) l = long-cleared (n * (n - 1)) (r .slot) (p .links) (long-sized (h .sizes)) in
       let pv : (g : Edge) → k .prev g (r .slot) ≡ none
-      = λ g. rw (getD-set-same (p .links .prev) (r .slot) (ends none none) noEnds (lt-of-lt-of-le xm (h .sizes .in-prev))) (same-ends (eqE g (end0 v (r .slot))) none) in
+      = λ g. rw (getD-set-same (p .links .prev) (r .slot) (ends none none) noEnds (inside-of xm (h .sizes .in-prev))) (same-ends (eqE g (end0 v (r .slot))) none) in
       let near : (g : Edge) → Placed n g → k .head g ≢ none → Near n v g (k .head g) = λ g pg u. near-head n v s (h .numbered) (h .room) (h .sound) held1 k g (rep1 g pg) u in
       let other : (g : Edge) → Placed n g → k .head g ≢ none → k .head g ≢ r .slot
       = λ g pg u q.
@@ -250,7 +248,7 @@ module _ (n : ℕ) (p : Pool) (s : Store) (h : Stored n p s) (rep : lists n p s)
         freed = took .freed;
         grew = omega (arith, took .grew, length-snoc (s .dense) r);
         order = in-order;
-        reverse = rw (h .live) (reverse-push (s .dense) r (p .order .reverse) (lt-of-lt-of-le xm (h .sizes .in-reverse)) new-slot (h .reverse));
+        reverse = rw (h .live) (reverse-push (s .dense) r (p .order .reverse) (inside-of xm (h .sizes .in-reverse)) new-slot (h .reverse));
         frees = took .stack;
         sound = each-push (Sound n) (s .dense) r (h .sound) (new-sound n a b s pa pb ab);
         held = each-push (HeldIn (wrote r (p .edges))) (s .dense) r (wrote-held n p s h rep r xm new-slot) (wrote-here n p s h rep r xm new-slot);
@@ -275,9 +273,6 @@ module _ (n : ℕ) (p : Pool) (s : Store) (h : Holds n p s) (a b : Edge) where
   pub holds-push : MayPush n a b s → Holds n (poolPush n (lesser a b) (greater a b) p) (plain.push a b s)
   holds-push m = holds-pushed n p s (h .stored) (lists-of n p s h) a b (m .first) (m .second) (m .differ) (m .room)
 
-  pub beyond-pushed : MayPush n a b s → Past (n * (n - 1)) (poolPush n (lesser a b) (greater a b) p) p
-  beyond-pushed m = beyond-push n (lesser a b) (greater a b) p (may-push m)
-
   -- the same of two edges and a pool that the code's steps leave
   module _ {e f : Edge} (ee : e ≡ lesser a b) (ef : f ≡ greater a b) (m : MayPush n a b s) where
     pub push-allowed : PushOk n e f p
@@ -285,9 +280,6 @@ module _ (n : ℕ) (p : Pool) (s : Store) (h : Holds n p s) (a b : Edge) where
 
     pub push-holds : {q : Pool} {ok : Bool} → q ≡ poolPush n e f p → ok ≡ true → Holds n q (cond ok (plain.push a b s) s)
     push-holds eq t = rw (t, eq, ee, ef) (holds-push m)
-
-    pub push-beyond : {q : Pool} → q ≡ poolPush n e f p → Past (n * (n - 1)) q p
-    push-beyond eq = rw (eq, ee, ef) (beyond-pushed m)
 
   pub no-push-holds : {ok : Bool} → ok ≡ false → Holds n p (cond ok (plain.push a b s) s)
   no-push-holds t = rw t h

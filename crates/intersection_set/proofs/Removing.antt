@@ -5,7 +5,6 @@ use mathlib.Core.Bool.{true, false}
 use mathlib.Core.List.{List}
 use Prim.Native.Nat.{ℕ, zero, suc, _-_, _*_, _≤_, _<_}
 use native.Mathlib.Omega.{arith}
-use native.Mathlib.Nat.{lt-of-lt-of-le}
 use borrow.Author.Tests.{eqb-true, eqb-false}
 use lib.Dec.{eqb}
 use lib.ListN.{length, getD, set}
@@ -27,10 +26,9 @@ use Rattle.intersection_set.proofs.Chains.{Links, Rep, cond-fun, names-
 use Rattle.intersection_set.proofs.HeadPlaces.{placed}
 use Rattle.intersection_set.proofs.Alike.{Same, same-then, unlink-same}
 use Rattle.intersection_set.proofs.Views.{view, At, unlink-is}
-use Rattle.intersection_set.proofs.Lengths.{cap-small, place-lt, end-ok, head-ok, len-ends, len-head, sizes-remove, sized-same, all-none, all-suc}
+use Rattle.intersection_set.proofs.Lengths.{inside-of, cap-small, place-lt, end-ok, head-ok, len-ends, len-head, sizes-remove, sized-same, all-none, all-suc}
 use Rattle.intersection_set.proofs.Holding.{each-remove, differ, stack-set, Near, reach, near-prev, near-next, rep-same, along-first, along-second, lists, lists-of, holds-of, not-none}
 use Rattle.intersection_set.proofs.Pushing.{Long, long-sized}
-use Rattle.intersection_set.proofs.PastTheEnd.{Past, past-self, past-after, past-unlink, past-then}
 
 long-unlink : (m n : ℕ) (e : Edge) (x y : ℕ) (w : List Pair) (l : pool.Links) → Long m l → Long m (unlinkFrom n e x y w l)
 unfolding unlinkFrom
@@ -109,12 +107,12 @@ module _ (n : ℕ) (p : Pool) (s : Store) (h : Stored n p s) (rep : lists n p s)
       let o0 : Proper n (end0 (p .edges) (rec .slot)) = subst⁻¹ (Proper n) (h .held j i .0) (h .sound j i .first) in
       let o1 : Proper n (end1 (p .edges) (rec .slot)) = subst⁻¹ (Proper n) (h .held j i .1) (h .sound j i .second) in
       record {
-        in-edges = lt-of-lt-of-le w (z .in-edges);
-        in-next = lt-of-lt-of-le w (z .in-next);
+        in-edges = inside-of w (z .in-edges);
+        in-next = inside-of w (z .in-next);
         in-free = omega (arith, h .freed, h .room, z .in-free);
         drops = record {
           some = omega (arith, h .live);
-          within = lt-of-lt-of-le w (z .in-reverse);
+          within = inside-of w (z .in-reverse);
           few = omega (arith, h .live, h .room, z .in-dense);
           spot = omega (arith, spot-is, h .room, z .in-dense);
           last = omega (arith, last-is, slot-below s (h .numbered) (length (s .dense) - 1) (omega arith), h .room, z .in-reverse);
@@ -217,26 +215,6 @@ module _ (n : ℕ) (p : Pool) (s : Store) (h : Stored n p s) (rep : lists n p s)
   holds-removed : Holds n (poolRemove n (rec .slot) p) left
   holds-removed = holds-of n (poolRemove n (rec .slot) p) left stored-remove lists-removed
 
-  pub beyond-remove : Past (n * (n - 1)) (poolRemove n (rec .slot) p) p
-  unfolding poolRemove denseRemove
-  beyond-remove =
-      let m : ℕ = n * (n - 1) in
-      let x : ℕ = rec .slot in
-      let ok = remove-ok in
-      let last-lt : getD (p .order .dense) (p .counts .live - 1) 0 < m = omega (arith, last-is, slot-below s (h .numbered) (length (s .dense) - 1) (omega arith), h .room) in
-      let L1 = past-unlink m n (end0 (p .edges) x) (p .edges) (p .links) (place-lt n (end0 (p .edges) x) (ok .unlink0 .head .edge)) (getD (p .links .next) x noEnds .x0) (getD (p .links .prev) x noEnds .x0) (λ u. near-n0 u .below) (λ u. near-p0 u .below) in
-      let L2 = past-unlink m n (end1 (p .edges) x) (p .edges) _ (place-lt n (end1 (p .edges) x) (ok .unlink1 .head .edge)) (getD (p .links .next) x noEnds .x1) (getD (p .links .prev) x noEnds .x1) (λ u. near-n1 u .below) (λ u. near-p1 u .below) in
-      let L = past-then L2 L1 in
-      record {
-        heads = L .heads;
-        next = L .next;
-        prev = L .prev;
-        edges = refl;
-        dense = drop-set-lt m (p .order .dense) (getD (p .order .reverse) x 0) _ (omega (arith, spot-is, h .room));
-        reverse = drop-set-lt m (p .order .reverse) (getD (p .order .dense) (p .counts .live - 1) 0) _ last-lt;
-        free = drop-set-lt m (p .free) (p .counts .freed) x (omega (arith, h .freed, h .room));
-      }
-
 -- buffers that hold a store, after a removal, hold the store after the removal
 pub holds-remove : (n : ℕ) (p : Pool) (s : Store) → Holds n p s → (j : ℕ) → j < length (s .dense)
     → Holds n (poolRemove n (getD (s .dense) j noRec .slot) p) (removeFound (at-place j (getD (s .dense) j noRec)) s)
@@ -245,13 +223,12 @@ holds-remove n p s h j i = holds-removed n p s (h .stored) (lists-of n p s h) j 
 -- ---- all the records of an edge, newest first
 module _ (n : ℕ) (e : Edge) (pe : Proper n e) where
   abbrev Both : ℕ → Pool → Store → Type 0
-  Both f p s = Drained n e p × Holds n (poolRemoveAll n e f p) (removeAllFuel f e s) × Past (n * (n - 1)) (poolRemoveAll n e f p) p
+  Both f p s = Drained n e p × Holds n (poolRemoveAll n e f p) (removeAllFuel f e s)
 
   empty : (f : ℕ) (p : Pool) (s : Store) → Holds n p s → newestFrom e 0 (s .dense) ≡ nothing → headAt n e (p .links .heads) ≡ none → Both f p s
   empty f p s h q z = (
     Drained.empty z,
     subst⁻¹ (λ (t : Store). Holds n (poolRemoveAll n e f p) t) (stays f e s q) (subst⁻¹ (λ (t : Pool). Holds n t s) (all-none n e f p z) h),
-    subst⁻¹ (λ (t : Pool). Past (n * (n - 1)) t p) (all-none n e f p z) (past-self (n * (n - 1)) p),
   )
 
   head-is : (p : Pool) (s : Store) → Holds n p s → headAt n e (p .links .heads) ≡ slotFound none (newestFrom e 0 (s .dense))
@@ -276,7 +253,6 @@ module _ (n : ℕ) (e : Edge) (pe : Proper n e) where
           let r' : Both f (poolRemove n (headAt n e (p .links .heads)) p) s' = again (poolRemove n (headAt n e (p .links .heads)) p) s' h' len' in (
             Drained.some ne (subst⁻¹ (λ (y : ℕ). RemoveOk n y p) hd (remove-ok n p s (h .stored) (lists-of n p s h) k i)) (r' .0),
             subst⁻¹ (λ (y : Pool). Holds n y (removeAllFuel f e s')) (all-suc n e f p ne) (r' .1),
-            subst⁻¹ (λ (y : Pool). Past (n * (n - 1)) y p) (all-suc n e f p ne) (past-after (r' .2) (subst⁻¹ (λ (y : ℕ). Past (n * (n - 1)) (poolRemove n y p) p) hd (beyond-remove n p s (h .stored) (lists-of n p s h) k i))),
           )
 
   drain : (f : ℕ) (p : Pool) (s : Store) → Holds n p s → length (s .dense) ≤ f → Both f p s
@@ -298,13 +274,7 @@ module _ (n : ℕ) (e : Edge) (pe : Proper n e) where
     pub holds-removeAll : Holds n (poolRemoveAll n e (p .counts .live) p) (plain.removeAll e s)
     holds-removeAll = subst⁻¹ (λ (f : ℕ). Holds n (poolRemoveAll n e f p) (plain.removeAll e s)) (h .stored .live) (drain (length (s .dense)) p s h (omega arith) .1)
 
-    pub beyond-removeAll : Past (n * (n - 1)) (poolRemoveAll n e (p .counts .live) p) p
-    beyond-removeAll = subst⁻¹ (λ (f : ℕ). Past (n * (n - 1)) (poolRemoveAll n e f p) p) (h .stored .live) (drain (length (s .dense)) p s h (omega arith) .2)
-
     -- the same of the pool that the code leaves
     module _ {q : Pool} (eq : q ≡ poolRemoveAll n e (p .counts .live) p) where
       pub removed-holds : Holds n q (plain.removeAll e s)
       removed-holds = rw eq holds-removeAll
-
-      pub removed-beyond : Past (n * (n - 1)) q p
-      removed-beyond = rw eq beyond-removeAll

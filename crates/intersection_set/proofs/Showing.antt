@@ -53,16 +53,16 @@ no-edge n s e sound off = go (listOf e (s .dense)) (omega (arith, count-length (
     go (r ∷ l) h = absurd (omega arith)
 
 module _ (n : ℕ) (p : Pool) (s : Store) (h : Holds n p s) where
-  pub heads-are : take (n * (n - 1)) (p .links .heads) ≡ headsOf n s
+  pub heads-are : p .links .heads ≡ headsOf n s
   heads-are =
       let m : ℕ = n * (n - 1) in
       let f : ℕ → ℕ = λ i. cond (ltb (i / n) (i % n)) (headOf (pairAt n i) s) none in
-      let z : length (take m (p .links .heads)) ≡ m = length-take-le m (p .links .heads) (h .stored .sizes .in-heads) in
-      ext-getD 0 (take m (p .links .heads)) (headsOf n s) (z ∙ sym (length-map (upFrom 0 m) f ∙ upFrom-length 0 m))
+      let z : length (p .links .heads) ≡ m = h .stored .sizes .in-heads in
+      ext-getD 0 (p .links .heads) (headsOf n s) (z ∙ sym (length-map (upFrom 0 m) f ∙ upFrom-length 0 m))
       (λ i u.
       let w : i < m = omega (arith, u, z) in
       let o : 0 + i ≡ i = omega arith in
-      getD-take m (p .links .heads) i 0 w ∙ at-place i w ∙ sym (table-at f 0 0 m i w ∙ ap f o))
+      at-place i w ∙ sym (table-at f 0 0 m i w ∙ ap f o))
     where
       read : (i : ℕ) → i < n * (n - 1) → getD (p .links .heads) i 0 ≡ headOf (pairAt n i) s
       read i w = ap (λ (k : ℕ). getD (p .links .heads) k 0) (sym (pair-place n i w)) ∙ h .heads (pairAt n i) (pair-placed n i w)

@@ -1,21 +1,20 @@
 -- The start: whatever the other buffers hold, once every head is none they hold the empty store.
 use mathlib.Core.Path.{_≡_, ap, _∙_}
 use mathlib.Core.List.{List}
-use Prim.Native.Nat.{ℕ, _-_, _*_, _≤_}
+use Prim.Native.Nat.{ℕ, _≤_}
 use native.Mathlib.Omega.{arith}
-use lib.ListN.{length, getD, length-map}
+use lib.ListN.{length, getD, length-map, replicate, length-replicate, getD-replicate}
 use Rattle.intersection_set.specs.Store.{empty}
-use Rattle.intersection_set.specs.Lists.{headPlace}
-use Rattle.intersection_set.specs.Pool.{pairOf, nextsIn, prevsIn, Pool, Buffers, lent, poolOf, countsOf, fill}
+use Rattle.intersection_set.specs.Lists.{none, headPlace}
+use Rattle.intersection_set.specs.Pool.{pairOf, nextsIn, prevsIn, Pool, Buffers, lent, poolOf, countsOf}
 use Rattle.intersection_set.specs.Within.{Sized, Room}
 use Rattle.intersection_set.specs.Holds.{Holds}
 use Rattle.intersection_set.specs.declared.utils.Counts.{Counts}
 use Rattle.intersection_set.proofs.Slots.{numbered-empty}
-use Rattle.intersection_set.proofs.Filling.{fill-at}
 use Rattle.intersection_set.proofs.HeadPlaces.{head-below}
 
-pub holds-start : (n : ℕ) (p : Pool) (hs : List ℕ) → n ≤ 256 → Sized n p → p .links .heads ≡ fill (n * (n - 1)) hs → p .counts ≡ countsOf 0 0 0 → Holds n p empty
-holds-start n p hs small sizes filled none-yet =
+pub holds-start : (n : ℕ) (p : Pool) (m : ℕ) → n ≤ 256 → Sized n p → p .links .heads ≡ replicate m none → p .counts ≡ countsOf 0 0 0 → Holds n p empty
+holds-start n p m small sizes filled none-yet =
     record {
       stored =
           record {
@@ -32,7 +31,7 @@ holds-start n p hs small sizes filled none-yet =
             frees = tt;
             held = λ j i. absurd (omega arith);
           };
-      heads = λ e pe. ap (λ (l : List ℕ). getD l (headPlace n e) 0) filled ∙ fill-at (n * (n - 1)) hs (headPlace n e) (head-below n e pe);
+      heads = λ e pe. ap (λ (l : List ℕ). getD l (headPlace n e) 0) filled ∙ getD-replicate m (headPlace n e) none 0 (omega (arith, head-below n e pe, sizes .in-heads, ap length filled, length-replicate {A = ℕ} m none));
       linked = λ j i. absurd (omega arith);
     }
 

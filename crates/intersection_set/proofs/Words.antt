@@ -94,37 +94,6 @@ module _ (l : List ℕ) (i : ℕ) where
 pub as-many : {A : Type 0} (f : ℕ → A) (l k : List ℕ) → length (map f l) ≡ length (map f k) → length l ≡ length k
 as-many f l k q = sym (length-map l f) ∙ q ∙ length-map k f
 
--- ---- words with the same numbers are the same words, from m on
-drop-map : {A : Type 0} (f : ℕ → A) (m : ℕ) (l : List ℕ) → drop m (map f l) ≡ map f (drop m l)
-drop-map f zero l = refl
-drop-map f (suc m) [] = refl
-drop-map f (suc m) (x ∷ l) = drop-map f m l
-
-map-map : {A : Type 0} (f : ℕ → A) (g : A → ℕ) (l : List ℕ) → ((w : ℕ) → g (f w) ≡ w) → map g (map f l) ≡ l
-map-map f g [] h = refl
-map-map f g (x ∷ l) h = λ j. h x j ∷ map-map f g l h j
-
-pub same-pairs : (m : ℕ) (a b : List ℕ) → drop m (edgesOf a) ≡ drop m (edgesOf b) → drop m a ≡ drop m b
-unfolding pairOf
-same-pairs m a b h =
-    let g : Pair → ℕ = λ p. packed (p .e0 .lo) (p .e0 .hi) (p .e1 .lo) (p .e1 .hi) in
-    sym (map-map pairOf g (drop m a) packed-parts) ∙ ap (map g) (sym (drop-map pairOf m a) ∙ h ∙ drop-map pairOf m b) ∙ map-map pairOf g (drop m b) packed-parts
-
-abbrev both-ends : List Ends → List Ends → List ℕ
-both-ends [] q = []
-both-ends (x ∷ p) q = let y = getD q 0 noEnds in packed (x .x0) (y .x0) (x .x1) (y .x1) ∷ both-ends p (drop 1 q)
-
-back : (l : List ℕ) → both-ends (map nextsIn l) (map prevsIn l) ≡ l
-unfolding nextsIn prevsIn
-back [] = refl
-back (w ∷ l) = λ j. packed-parts w j ∷ back l j
-
-pub same-ends : (m : ℕ) (a b : List ℕ) → drop m (map nextsIn a) ≡ drop m (map nextsIn b) → drop m (map prevsIn a) ≡ drop m (map prevsIn b) → drop m a ≡ drop m b
-same-ends m a b h k =
-    sym (back (drop m a))
-    ∙ (λ j. both-ends ((sym (drop-map nextsIn m a) ∙ h ∙ drop-map nextsIn m b) j) ((sym (drop-map prevsIn m a) ∙ k ∙ drop-map prevsIn m b) j))
-    ∙ back (drop m b)
-
 -- ---- a word stored
 stored : {A : Type 0} (f : ℕ → A) (l : List ℕ) (i y : ℕ) (v : A) → f y ≡ v → map f (set l i y) ≡ set (map f l) i v
 stored f [] i y v e = refl

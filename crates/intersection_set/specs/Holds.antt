@@ -3,7 +3,7 @@ use mathlib.Core.Path.{_≡_}
 use mathlib.Core.Bool.{true, false}
 use mathlib.Core.List.{List, [], _∷_, map}
 use Prim.Native.Nat.{ℕ, suc, _-_, _*_, _≤_, _<_}
-use lib.ListN.{length, getD, take, drop}
+use lib.ListN.{length, getD, take}
 use Rattle.index_edge.specs.Edge.{Edge, eqE, ltE}
 use Rattle.intersection_set.specs.Store.{Rec, Store, noRec, grown}
 use Rattle.intersection_set.specs.Numbered.{Numbered}
@@ -71,7 +71,7 @@ pub record Holds (n : ℕ) (p : Pool) (s : Store) : Type 0 where
 
 -- What a reader of the buffers sees of a store, by equations: heads in full, and of the others the live entries.
 pub record Shows (n : ℕ) (b : Buffers) (s : Store) : Type 0 where
-  pub heads : take (n * (n - 1)) (b .heads) ≡ headsOf n s
+  pub heads : b .heads ≡ headsOf n s
   pub dense : take (length (s .dense)) (b .dense) ≡ map slotOf (s .dense)
   pub reverse : Each (λ r. getD (b .reverse) (r .slot) 0 ≡ reverseOf (r .slot) s) (s .dense)
   pub free : take (length (s .free)) (b .free) ≡ stackOf (s .free)
@@ -84,12 +84,3 @@ pub record MayPush (n : ℕ) (a b : Edge) (s : Store) : Type 0 where
   pub second : Proper n b
   pub differ : eqE a b ≡ false
   pub room : length (s .dense) < n * (n - 1)
-
--- Entries from m on are never written: there b is as d.
-pub record Beyond (m : ℕ) (b d : Buffers) : Type 0 where
-  pub heads : drop m (b .heads) ≡ drop m (d .heads)
-  pub ends : drop m (b .ends) ≡ drop m (d .ends)
-  pub links : drop m (b .links) ≡ drop m (d .links)
-  pub dense : drop m (b .dense) ≡ drop m (d .dense)
-  pub reverse : drop m (b .reverse) ≡ drop m (d .reverse)
-  pub free : drop m (b .free) ≡ drop m (d .free)

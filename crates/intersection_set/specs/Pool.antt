@@ -1,8 +1,8 @@
 -- What the lent buffers say, as a list for each field of a record, and what each step of the pool does to it.
 use mathlib.Core.Bool.{Bool, cond}
-use mathlib.Core.List.{List, _++_, map}
+use mathlib.Core.List.{List, map}
 use Prim.Native.Nat.{ℕ, zero, suc, _+_, _-_}
-use lib.ListN.{getD, set, drop, replicate}
+use lib.ListN.{getD, set}
 use lib.Dec.{eqb}
 use Rattle.index_edge.specs.Edge.{Edge, eqE, ltE}
 use Rattle.intersection_set.specs.Lists.{none, headPlace}
@@ -207,7 +207,3 @@ poolRemoveAll n e zero p = p
 poolRemoveAll n e (suc k) p =
     let r = poolRemoveAll n e k (poolRemove n (headAt n e (p .links .heads)) p) in
     cond (eqb (headAt n e (p .links .heads)) none) p r
-
--- ---- the start: the first m heads are none
-unfoldable pub fill : ℕ → List ℕ → List ℕ
-fill m l = replicate m none ++ drop m l

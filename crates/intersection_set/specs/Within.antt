@@ -50,24 +50,24 @@ pub record UnlinkOk (n : ℕ) (e : Edge) (next prev : ℕ) (w : List Pair) (l : 
   pub second : EndOk next w (l .prev)
 
 -- ---- the whole pool
--- the lists of a pool of n points are long enough
+-- the lists of a pool of n points have n×(n-1) entries each
 pub record Sized (n : ℕ) (p : Pool) : Type 0 where
-  pub in-heads : n * (n - 1) ≤ length (p .links .heads)
-  pub in-next : n * (n - 1) ≤ length (p .links .next)
-  pub in-prev : n * (n - 1) ≤ length (p .links .prev)
-  pub in-edges : n * (n - 1) ≤ length (p .edges)
-  pub in-dense : n * (n - 1) ≤ length (p .order .dense)
-  pub in-reverse : n * (n - 1) ≤ length (p .order .reverse)
-  pub in-free : n * (n - 1) ≤ length (p .free)
+  pub in-heads : length (p .links .heads) ≡ n * (n - 1)
+  pub in-next : length (p .links .next) ≡ n * (n - 1)
+  pub in-prev : length (p .links .prev) ≡ n * (n - 1)
+  pub in-edges : length (p .edges) ≡ n * (n - 1)
+  pub in-dense : length (p .order .dense) ≡ n * (n - 1)
+  pub in-reverse : length (p .order .reverse) ≡ n * (n - 1)
+  pub in-free : length (p .free) ≡ n * (n - 1)
 
--- the lent buffers have room for n points
+-- what is lent of the buffers: n×(n-1) entries of each
 pub record Room (n : ℕ) (b : Buffers) : Type 0 where
-  pub in-heads : n * (n - 1) ≤ length (b .heads)
-  pub in-ends : n * (n - 1) ≤ length (b .ends)
-  pub in-links : n * (n - 1) ≤ length (b .links)
-  pub in-dense : n * (n - 1) ≤ length (b .dense)
-  pub in-reverse : n * (n - 1) ≤ length (b .reverse)
-  pub in-free : n * (n - 1) ≤ length (b .free)
+  pub in-heads : length (b .heads) ≡ n * (n - 1)
+  pub in-ends : length (b .ends) ≡ n * (n - 1)
+  pub in-links : length (b .links) ≡ n * (n - 1)
+  pub in-dense : length (b .dense) ≡ n * (n - 1)
+  pub in-reverse : length (b .reverse) ≡ n * (n - 1)
+  pub in-free : length (b .free) ≡ n * (n - 1)
 
 -- what a pool of n points keeps, as far as its indices go
 pub record Good (n : ℕ) (p : Pool) : Type 0 where

@@ -6,15 +6,15 @@
 ghost use mathlib.Core.Path.{_≡_};
 ghost use mathlib.Core.Bool.{true, cond};
 ghost use mathlib.Core.List.{map};
-ghost use Prim.Native.Nat.{ℕ, _-_, _*_, _<_, _≤_};
-ghost use lib.ListN.{length, getD, set, drop};
+ghost use Prim.Native.Nat.{ℕ, _<_, _≤_};
+ghost use lib.ListN.{length, getD, set, replicate};
 ghost use Rattle.index_edge.specs.Number.{edgeOf};
 ghost use Rattle.intersection_set.specs.Store.{Store, noRec, empty, push as pushed, removeAll as allRemoved, chosen};
-ghost use Rattle.intersection_set.specs.Lists.{headPlace};
+ghost use Rattle.intersection_set.specs.Lists.{none, headPlace};
 ghost use Rattle.intersection_set.specs.Words.{packed, part0, part1, part2, part3, withNext, withPrev};
-ghost use Rattle.intersection_set.specs.Pool.{Pool, edgesOf, nextsIn, prevsIn, linksOf, lent, poolOf, end0, end1, headAt, setEnd, setHead, unlinkFrom, putEdges, putEnds, clearEnds, poolPush, poolRemove, lesser, greater, fill};
+ghost use Rattle.intersection_set.specs.Pool.{Pool, edgesOf, nextsIn, prevsIn, linksOf, lent, poolOf, end0, end1, headAt, setEnd, setHead, unlinkFrom, putEdges, putEnds, clearEnds, poolPush, poolRemove, lesser, greater};
 ghost use Rattle.intersection_set.specs.Within.{Proper, EndOk, HeadOk, UnlinkOk, Sized, PushOk, RemoveOk};
-ghost use Rattle.intersection_set.specs.Holds.{Holds, MayPush, Beyond};
+ghost use Rattle.intersection_set.specs.Holds.{Holds, MayPush};
 use crate::utils::Counts;
 use crate::utils::NONE;
 use crate::utils::SparseIndex;
@@ -41,11 +41,11 @@ impl IndexIntersection {
     }
 }
 
-// Writes that the first edges have no record.
-fn clear_heads(size: usize, heads: &mut [u16])
-    requires { ⌜ size ≤ length (now heads) ⌝ }
-    ensures { λ _. ⌜ now (heads .exit) ≡ fill size (now (heads .entry)) ⌝ }
+// Writes that no edge has a record.
+fn clear_heads(heads: &mut [u16])
+    ensures { λ _. ⌜ now (heads .exit) ≡ replicate (length (now (heads .entry))) none ⌝ }
 {
+    let size = heads.len();
     let mut i: usize = 0;
     while i < size {
         heads[i] = NONE;
@@ -54,12 +54,10 @@ fn clear_heads(size: usize, heads: &mut [u16])
 }
 
 // The set with no records (`IndexIntersectionSet::new`): every head is none, whatever the other buffers hold.
-pub fn clear(n: usize, heads: &mut [u16]) -> Counts
-    requires { ⌜ (0 < n) × (n ≤ 256) × (n * (n - 1) ≤ length (now heads)) ⌝ }
-    ensures { λ r. ⌜ ((p : Pool) → Sized n p → p .links .heads ≡ now (heads .exit) → p .counts ≡ r → Holds n p empty) × (drop (n * (n - 1)) (now (heads .exit)) ≡ drop (n * (n - 1)) (now (heads .entry))) ⌝ }
+pub fn clear(heads: &mut [u16]) -> Counts
+    ensures { λ r. ⌜ ((n : ℕ) (p : Pool) → n ≤ 256 → Sized n p → p .links .heads ≡ now (heads .exit) → p .counts ≡ r → Holds n p empty) ⌝ }
 {
-    let size = n * (n - 1);
-    clear_heads(size, heads);
+    clear_heads(heads);
     Counts {
         live: 0,
         grown: 0,
@@ -243,9 +241,13 @@ pub fn push(
     reverse: &mut [u16],
     free: &[u16],
 ) -> Counts
-    requires { ⌜ PushOk n (edgeOf (isect .min)) (edgeOf (isect .max)) (poolOf (lent (now heads) (now ends) (now links) (now dense) (now reverse) (now free)) c) ⌝ }
-    ensures { λ r. ⌜ poolOf (lent (now (heads .exit)) (now (ends .exit)) (now (links .exit)) (now (dense .exit)) (now (reverse .exit)) (now (free .entry))) r
-        ≡ poolPush n (edgeOf (isect .min)) (edgeOf (isect .max)) (poolOf (lent (now (heads .entry)) (now (ends .entry)) (now (links .entry)) (now (dense .entry)) (now (reverse .entry)) (now (free .entry))) c) ⌝ }
+    requires { let given = lent (now heads) (now ends) (now links) (now dense) (now reverse) (now free) in
+        ⌜ PushOk n (edgeOf (isect .min)) (edgeOf (isect .max)) (poolOf given c) ⌝ }
+    ensures { λ r.
+        let was = lent (now (heads .entry)) (now (ends .entry)) (now (links .entry)) (now (dense .entry)) (now (reverse .entry)) (now (free .entry)) in
+        let is = lent (now (heads .exit)) (now (ends .exit)) (now (links .exit)) (now (dense .exit)) (now (reverse .exit)) (now (free .entry)) in
+        ⌜ poolOf is r
+        ≡ poolPush n (edgeOf (isect .min)) (edgeOf (isect .max)) (poolOf was c) ⌝ }
 {
     let t = alloc(c, dense, reverse, free);
     let s = t.slot;
@@ -273,10 +275,13 @@ pub fn push_if(
     reverse: &mut [u16],
     free: &[u16],
 ) -> Counts
-    requires { ⌜ (ok ≡ true → ((s : Store) × Holds n (poolOf (lent (now heads) (now ends) (now links) (now dense) (now reverse) (now free)) c) s × MayPush n (edgeOf a) (edgeOf b) s)) ⌝ }
-    ensures { λ r. ⌜ ((s : Store) → Holds n (poolOf (lent (now (heads .entry)) (now (ends .entry)) (now (links .entry)) (now (dense .entry)) (now (reverse .entry)) (now (free .entry))) c) s → (ok ≡ true → MayPush n (edgeOf a) (edgeOf b) s)
-        → Holds n (poolOf (lent (now (heads .exit)) (now (ends .exit)) (now (links .exit)) (now (dense .exit)) (now (reverse .exit)) (now (free .entry))) r) (cond ok (pushed (edgeOf a) (edgeOf b) s) s))
-        × Beyond (n * (n - 1)) (lent (now (heads .exit)) (now (ends .exit)) (now (links .exit)) (now (dense .exit)) (now (reverse .exit)) (now (free .entry))) (lent (now (heads .entry)) (now (ends .entry)) (now (links .entry)) (now (dense .entry)) (now (reverse .entry)) (now (free .entry))) ⌝ }
+    requires { let given = lent (now heads) (now ends) (now links) (now dense) (now reverse) (now free) in
+        ⌜ (ok ≡ true → ((s : Store) × Holds n (poolOf given c) s × MayPush n (edgeOf a) (edgeOf b) s)) ⌝ }
+    ensures { λ r.
+        let was = lent (now (heads .entry)) (now (ends .entry)) (now (links .entry)) (now (dense .entry)) (now (reverse .entry)) (now (free .entry)) in
+        let is = lent (now (heads .exit)) (now (ends .exit)) (now (links .exit)) (now (dense .exit)) (now (reverse .exit)) (now (free .entry)) in
+        ⌜ ((s : Store) → Holds n (poolOf was c) s → (ok ≡ true → MayPush n (edgeOf a) (edgeOf b) s)
+        → Holds n (poolOf is r) (cond ok (pushed (edgeOf a) (edgeOf b) s) s)) ⌝ }
 {
     if ok {
         let isect = IndexIntersection::new(a, b);
@@ -327,9 +332,13 @@ fn remove(
     reverse: &mut [u16],
     free: &mut [u16],
 ) -> Counts
-    requires { ⌜ RemoveOk n (s .0) (poolOf (lent (now heads) (now ends) (now links) (now dense) (now reverse) (now free)) c) ⌝ }
-    ensures { λ r. ⌜ poolOf (lent (now (heads .exit)) (now (ends .entry)) (now (links .exit)) (now (dense .exit)) (now (reverse .exit)) (now (free .exit))) r
-        ≡ poolRemove n (s .0) (poolOf (lent (now (heads .entry)) (now (ends .entry)) (now (links .entry)) (now (dense .entry)) (now (reverse .entry)) (now (free .entry))) c) ⌝ }
+    requires { let given = lent (now heads) (now ends) (now links) (now dense) (now reverse) (now free) in
+        ⌜ RemoveOk n (s .0) (poolOf given c) ⌝ }
+    ensures { λ r.
+        let was = lent (now (heads .entry)) (now (ends .entry)) (now (links .entry)) (now (dense .entry)) (now (reverse .entry)) (now (free .entry)) in
+        let is = lent (now (heads .exit)) (now (ends .entry)) (now (links .exit)) (now (dense .exit)) (now (reverse .exit)) (now (free .exit)) in
+        ⌜ poolOf is r
+        ≡ poolRemove n (s .0) (poolOf was c) ⌝ }
 {
     let i = s.0 as usize;
     let e0 = edge0_at(ends, i);
@@ -356,10 +365,13 @@ pub fn remove_all(
     reverse: &mut [u16],
     free: &mut [u16],
 ) -> Counts
-    requires { ⌜ Proper n (edgeOf e) × ((s : Store) × Holds n (poolOf (lent (now heads) (now ends) (now links) (now dense) (now reverse) (now free)) c) s) ⌝ }
-    ensures { λ r. ⌜ ((s : Store) → Holds n (poolOf (lent (now (heads .entry)) (now (ends .entry)) (now (links .entry)) (now (dense .entry)) (now (reverse .entry)) (now (free .entry))) c) s
-        → Holds n (poolOf (lent (now (heads .exit)) (now (ends .entry)) (now (links .exit)) (now (dense .exit)) (now (reverse .exit)) (now (free .exit))) r) (allRemoved (edgeOf e) s))
-        × Beyond (n * (n - 1)) (lent (now (heads .exit)) (now (ends .entry)) (now (links .exit)) (now (dense .exit)) (now (reverse .exit)) (now (free .exit))) (lent (now (heads .entry)) (now (ends .entry)) (now (links .entry)) (now (dense .entry)) (now (reverse .entry)) (now (free .entry))) ⌝ }
+    requires { let given = lent (now heads) (now ends) (now links) (now dense) (now reverse) (now free) in
+        ⌜ Proper n (edgeOf e) × ((s : Store) × Holds n (poolOf given c) s) ⌝ }
+    ensures { λ r.
+        let was = lent (now (heads .entry)) (now (ends .entry)) (now (links .entry)) (now (dense .entry)) (now (reverse .entry)) (now (free .entry)) in
+        let is = lent (now (heads .exit)) (now (ends .entry)) (now (links .exit)) (now (dense .exit)) (now (reverse .exit)) (now (free .exit)) in
+        ⌜ ((s : Store) → Holds n (poolOf was c) s
+        → Holds n (poolOf is r) (allRemoved (edgeOf e) s)) ⌝ }
 {
     let mut k = c;
     let mut newest = by_edge(n, e, heads);

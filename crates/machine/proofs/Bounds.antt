@@ -9,7 +9,7 @@ use Rattle.algebra.specs.Counting.{one, countP, count-append, count-length, cou
 use Rattle.geometry.specs.Plane.{Point}
 use Rattle.index_edge.specs.Edge.{Edge, memberE, eqE, ltE}
 use Rattle.intersection_set.specs.Store.{Rec, Store, push, counted}
-use Rattle.machine.specs.Machine.{State, Laid, sameHoist, fresh, freshOver, freshWith, scanOver, scans, pairsWith, pairs}
+use Rattle.machine.specs.Machine.{State, Laid, doubled, fresh, freshOver, freshWith, scanOver, scans, pairsWith, pairs}
 use Rattle.polygon.specs.Edges.{edges}
 use Rattle.algebra.specs.Ranges.{upFrom, upFrom-length}
 use Rattle.machine.specs.Board.{meetE}
@@ -142,15 +142,15 @@ module _ (n : ℕ) (pt : ℕ → Point) where
   twice x false = omega arith
 
   -- so at most n * (n - 1) records live after each move
-  pub few : (s : State) (g : List Laid) → Exact n pt s g → length (s .store .dense) ≤ n * (n - 1)
-  few s g ex =
+  pub few : (was : Edge → Edge → Bool) (s : State) (g : List Laid) → Exact n pt was s g → length (s .store .dense) ≤ n * (n - 1)
+  few was s g ex =
       let F : List Rec = fresh n pt (s .ring) in
       omega (
         arith,
         fresh-few (s .ring),
         length-append F F,
         no-longer (s .store .dense) (F ++ F)
-            (λ a b. omega (arith, count-append (isPair a b) F F, ex a b, twice (counted a b F) (sameHoist a b g), counted-is a b F, counted-is a b (s .store .dense))),
+            (λ a b. omega (arith, count-append (isPair a b) F F, ex a b, twice (counted a b F) (doubled was a b g), counted-is a b F, counted-is a b (s .store .dense))),
       )
 
 -- ---- searches over a list and its continuation

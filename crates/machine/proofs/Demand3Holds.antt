@@ -1,8 +1,8 @@
--- Demand 3 holds.
+-- Demand 3 holds: for runs from any state whose record is exact, and so for those from the start.
 use mathlib.Core.Path.{_≡_, refl, _∙_, ap, sym}
-use mathlib.Core.Bool.{Bool, true, false, not, _&&_, cond}
+use mathlib.Core.Bool.{Bool, true, false, not, _&&_, _||_, cond}
 use mathlib.Core.List.{List, [], _∷_}
-use mathlib.Core.Logic.{_≢_, _↔_}
+use mathlib.Core.Logic.{_≢_, _↔_, inl, inr}
 use Prim.Native.Nat.{ℕ, _*_, _<_}
 use native.Mathlib.Omega.{arith}
 use lib.ListN.{length}
@@ -10,12 +10,13 @@ use borrow.Author.Tests.{eq-eqb, ne-eqb}
 use Rattle.geometry.specs.Plane.{Point}
 use Rattle.index_edge.specs.Edge.{Edge, eqE, ltE, memberE}
 use Rattle.intersection_set.specs.Store.{Rec, counted}
-use Rattle.machine.specs.Machine.{State, Traced, sameHoist, start, begin, after, fresh}
+use Rattle.machine.specs.Machine.{State, Laid, Traced, sameHoist, doubled, nothingTwice, start, begin, runW, after, fresh}
 use Rattle.polygon.specs.Ring.{at, IsRing}
 use Rattle.polygon.specs.Edges.{edges, IsEdge}
 use Rattle.machine.specs.Board.{meetE, Board}
-use Rattle.machine.specs.Answer.{finish, answer}
+use Rattle.machine.specs.Answer.{delivered, finish, answerFrom}
 use Rattle.machine.specs.Demand3.{Pair, Search, Loop, Demand3, Least, Picks}
+use Rattle.machine.specs.Onward.{Onward}
 use Rattle.geometry.specs.Segment.{Meet}
 use Rattle.algebra.specs.Counting.{one}
 use Rattle.algebra.specs.Cases.{both, true-or-false, and-left, and-right}
@@ -32,7 +33,7 @@ use Rattle.intersection_set.proofs.Records.{counted-is}
 use Rattle.machine.proofs.Scans.{found, fresh-counted, fresh-same, start-count}
 use Rattle.machine.proofs.GoodPlan.{once-edges, ring-edge-apart}
 use Rattle.machine.proofs.Exactly.{Inv, begin-inv, run-inv}
-use Rattle.machine.proofs.Moves.{move-count, none-left, none-counted, run-longer, start-count-is}
+use Rattle.machine.proofs.Moves.{moves-from, move-count, none-left, none-counted, run-longer, start-count-is}
 use Rattle.machine.proofs.Finish.{finish-ring, finish-edges, finish-is, finish-turn}
 
 module _ (n : ℕ) (pt : ℕ → Point) (board : Board n pt) where
@@ -45,13 +46,13 @@ module _ (n : ℕ) (pt : ℕ → Point) (board : Board n pt) where
     apart : (e : Edge) → memberE e (edges n r) ≡ true → pt (e .lo) ≢ pt (e .hi)
     apart = ring-edge-apart n pt board r ring
 
-    pair-found : (e f : Edge) → Pair n pt r e f → found n pt r e f ≡ true
+    pub pair-found : (e f : Edge) → Pair n pt r e f → found n pt r e f ≡ true
     pair-found e f p =
         let a = edge-member n r e (p .first) in
         let b = edge-member n r f (p .second) in
         rw (a, b, p .in-order) (meeting-is e f (apart e a) (apart f b) .1 (p .meet))
 
-    found-pair : (e f : Edge) → found n pt r e f ≡ true → Pair n pt r e f
+    pub found-pair : (e f : Edge) → found n pt r e f ≡ true → Pair n pt r e f
     found-pair e f h =
         let a = and-left (memberE e (edges n r)) _ h in
         let g = and-right (memberE e (edges n r)) _ h in
@@ -101,43 +102,70 @@ module _ (n : ℕ) (pt : ℕ → Point) (board : Board n pt) where
             none = none-counted _ (λ a b. fresh-same n pt r (finish n pt r) (once-edges n r ring three) (once-edges n (finish n pt r) l three) (finish-edges n pt r some ring ap-art) a b ∙ ap (counted a b) none);
           }
 
-  -- ---- the demand
-  module _ (w : ℕ → State → ℕ) (picks : Picks w) (cs r : List ℕ) (ring : IsRing n r) where
+  -- ---- every run from a state whose ring is one and whose record is exact
+  module _ (was : Edge → Edge → Bool) (w : ℕ → State → ℕ) (picks : Picks w) (t₀ : Traced) (inv₀ : Inv n pt was t₀) (cs : List ℕ) where
     abbrev t : Traced
-    t = after n pt w cs r
+    t = runW n pt w cs t₀
 
-    inv : Inv n pt t
-    inv = run-inv n pt board w picks cs (begin n pt r) (begin-inv n pt board r ring)
+    inv : Inv n pt was t
+    inv = run-inv n pt was board w picks cs t₀ inv₀
 
     search : Search n pt (t .now .ring) (fresh n pt (t .now .ring))
     search = fresh-search (t .now .ring) (inv .ring-ok)
 
-    times : (e f : Edge) (k : ℕ) (b : Bool) → counted e f (fresh n pt (t .now .ring)) ≡ k → sameHoist e f (t .log) ≡ b → counted e f (t .now .store .dense) ≡ k * cond b 2 1
+    times : (e f : Edge) (k : ℕ) (b : Bool) → counted e f (fresh n pt (t .now .ring)) ≡ k → doubled was e f (t .log) ≡ b → counted e f (t .now .store .dense) ≡ k * cond b 2 1
     times e f k b p q = inv .exact e f ∙ rw (p, q)
 
     empty : (t .now .store .dense ≡ []) ↔ (fresh n pt (t .now .ring) ≡ [])
-    empty = none-left n pt t inv
+    empty = none-left n pt was t inv
+
+    no-length : (l : List Rec) → length l ≡ 0 → l ≡ []
+    no-length [] h = refl
+    no-length (a ∷ l) h = absurd (omega arith)
+
+    pub onward : (k : ℕ) → Onward n pt was w cs t₀ k
+    onward k = record {
+      ring = inv .ring-ok;
+      searched = search;
+      names = record {
+        each = λ e f p. both (true-or-false (doubled was e f (t .log))) (λ h. inr (times e f 1 true (search .each e f p) h)) (λ h. inl (times e f 1 false (search .each e f p) h));
+        only = λ e f q. inv .exact e f ∙ rw (search .only e f q) (omega arith);
+      };
+      twice = λ e f p h. times e f 1 true (search .each e f p) h;
+      once = λ e f p h. times e f 1 false (search .each e f p) h;
+      delivers = λ h. rw (eq-eqb (length (t .now .store .dense)) 0 (ap length (empty .1 h)));
+      withholds = λ h. rw (ne-eqb (length (t .now .store .dense)) 0 (λ z. h (empty .0 (no-length (t .now .store .dense) z))));
+      loop = loop-of (t .now .ring) (inv .ring-ok);
+      longer = λ more h. ap (answerFrom n pt k) (run-longer n pt w cs more t₀ (empty .1 h));
+      moves = moves-from n pt w board picks was cs t₀ inv₀;
+    }
+
+  -- before the first move nothing is named twice, so what is doubled is what one hoist laid
+  doubled-hoist : (e f : Edge) (g : List Laid) → doubled nothingTwice e f g ≡ sameHoist e f g
+  doubled-hoist e f [] = refl
+  doubled-hoist e f (m ∷ g) = ap (λ (b : Bool). cond (memberE e (m .news) || memberE f (m .news)) (m .hoisted && (memberE e (m .news) && memberE f (m .news))) b) (doubled-hoist e f g)
+
+  -- ---- the demand: the run from the start
+  module _ (w : ℕ → State → ℕ) (picks : Picks w) (cs r : List ℕ) (ring : IsRing n r) where
+    whole : Onward n pt nothingTwice w cs (begin n pt r) (length (start n pt r .dense))
+    whole = onward nothingTwice w picks (begin n pt r) (begin-inv n pt r ring) cs (length (start n pt r .dense))
 
     pub demand3 : Demand3 n pt w cs r
     demand3 = record {
       searched = fresh-search r ring;
-      searched-last = search;
+      searched-last = whole .searched;
       starts = record { each = λ e f p. start-is e f ∙ fresh-search r ring .each e f p; only = λ e f q. start-is e f ∙ fresh-search r ring .only e f q };
-      twice = λ e f p h. times e f 1 true (search .each e f p) h;
-      once = λ e f p h. times e f 1 false (search .each e f p) h;
-      only = λ e f q. inv .exact e f ∙ rw (search .only e f q) (omega arith);
-      delivers = λ h. rw (eq-eqb (length (t .now .store .dense)) 0 (ap length (empty .1 h)), start-count-is n pt r);
-      withholds = λ h. rw (ne-eqb (length (t .now .store .dense)) 0 (λ z. h (empty .0 (no-length (t .now .store .dense) z))));
-      loop = loop-of (t .now .ring) (inv .ring-ok);
-      ring = inv .ring-ok;
-      longer = λ more h. ap (answer n pt r) (run-longer n pt w cs more (begin n pt r) (empty .1 h));
+      twice = λ e f p h. whole .twice e f p (doubled-hoist e f (after n pt w cs r .log) ∙ h);
+      once = λ e f p h. whole .once e f p (doubled-hoist e f (after n pt w cs r .log) ∙ h);
+      only = whole .names .only;
+      delivers = λ h. whole .delivers h ∙ ap (delivered (finish n pt (after n pt w cs r .now .ring)) (length (after n pt w cs r .log))) (start-count-is n pt r);
+      withholds = whole .withholds;
+      loop = whole .loop;
+      ring = whole .ring;
+      longer = whole .longer;
       moves = move-count n pt w board picks cs r ring;
     }
       where
         -- the start counts what a fresh search counts
         start-is : (e f : Edge) → counted e f (start n pt r .dense) ≡ counted e f (fresh n pt r)
         start-is e f = counted-is e f (start n pt r .dense) ∙ start-count n pt r (λ x y. eqE e x && eqE f y) ∙ sym (counted-is e f (fresh n pt r))
-
-        no-length : (l : List Rec) → length l ≡ 0 → l ≡ []
-        no-length [] h = refl
-        no-length (a ∷ l) h = absurd (omega arith)

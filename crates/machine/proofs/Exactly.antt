@@ -10,7 +10,7 @@ use lib.ListN.{length, getD}
 use Rattle.algebra.specs.Counting.{one, countP, count-at}
 use Rattle.geometry.specs.Plane.{Point}
 use Rattle.index_edge.specs.Edge.{Edge, eqE, ltE, memberE}
-use Rattle.machine.specs.Machine.{State, Laid, Traced, sameHoist, start, fresh, carry, planOf, carried, step, runW, begin}
+use Rattle.machine.specs.Machine.{State, Laid, Traced, doubled, nothingTwice, start, fresh, carry, planOf, carried, step, runW, begin}
 use Rattle.polygon.specs.Change.{Plan, byHoist, cut, lay, turned}
 use Rattle.intersection_set.specs.Store.{removes, counted, noRec}
 use Rattle.polygon.specs.Edges.{edges}
@@ -93,22 +93,22 @@ cond-same : {A : Type 0} (b : Bool) (x : A) → cond b x x ≡ x
 cond-same true x = refl
 cond-same false x = refl
 
-module _ (n : ℕ) (pt : ℕ → Point) where
-  -- the words of demand 3, of a state and a log
+module _ (n : ℕ) (pt : ℕ → Point) (was : Edge → Edge → Bool) where
+  -- the words of demand 3, of a state and a log; `was` says which pairs were named twice before the moves of the log
   abbrev pub Exact : State → List Laid → Type 0
-  Exact s g = (a b : Edge) → counted a b (s .store .dense) ≡ counted a b (fresh n pt (s .ring)) * cond (sameHoist a b g) 2 1
+  Exact s g = (a b : Edge) → counted a b (s .store .dense) ≡ counted a b (fresh n pt (s .ring)) * cond (doubled was a b g) 2 1
 
   module _ (m : Plan) (s : State) (g : List Laid) (ok : GoodPlan n pt (s .ring) m) (ex : Exact s g) where
     move-lt : (a b : Edge) → ltE a b ≡ true
-        → counted a b (carry n pt m s .store .dense) ≡ one (found n pt (turned n m (s .ring)) a b) * cond (sameHoist a b (record { hoisted = byHoist m; news = lay n m (s .ring) } ∷ g)) 2 1
+        → counted a b (carry n pt m s .store .dense) ≡ one (found n pt (turned n m (s .ring)) a b) * cond (doubled was a b (record { hoisted = byHoist m; news = lay n m (s .ring) } ∷ g)) 2 1
     move-lt a b lt =
         let r : List ℕ = s .ring in
         let C : List Edge = cut n m r in
         let L : List Edge = lay n m r in
-        one-pair _ (counted a b (removes C (s .store) .dense)) (counted a b (s .store .dense)) (memberE a (edges n r)) (memberE b (edges n r)) (memberE a C) (memberE b C) (memberE a L) (memberE b L) (memberE a (edges n (turned n m r))) (memberE b (edges n (turned n m r))) (ltE a b) (meetE pt a b) (meetE pt b a) (byHoist m) (sameHoist a b g)
+        one-pair _ (counted a b (removes C (s .store) .dense)) (counted a b (s .store .dense)) (memberE a (edges n r)) (memberE b (edges n r)) (memberE a C) (memberE b C) (memberE a L) (memberE b L) (memberE a (edges n (turned n m r))) (memberE b (edges n (turned n m r))) (ltE a b) (meetE pt a b) (meetE pt b a) (byHoist m) (doubled was a b g)
         (scans-counted pt a b lt (edges n (turned n m r)) L (removes C (s .store)) (ok .once-after) (ok .once-lay))
         (counted-removes a b C (s .store))
-        (ex a b ∙ ap (λ (u : ℕ). u * cond (sameHoist a b g) 2 1) (fresh-counted n pt r (ok .once) a b))
+        (ex a b ∙ ap (λ (u : ℕ). u * cond (doubled was a b g) 2 1) (fresh-counted n pt r (ok .once) a b))
         lt
         (ok .after a)
         (ok .after b)
@@ -137,11 +137,6 @@ module _ (n : ℕ) (pt : ℕ → Point) where
         move-not a b h
         ∙ sym
         (zero-times _ _ (out-of-order (memberE a (edges n (turned n m (s .ring)))) (memberE b (edges n (turned n m (s .ring)))) (ltE a b) (meetE pt a b) h))))
-
-  -- ---- the start
-  pub start-exact : (r : List ℕ) → Exact (begin n pt r .now) []
-  start-exact r a b =
-      (counted-is a b (start n pt r .dense) ∙ start-count n pt r (λ x y. eqE a x && eqE b y) ∙ sym (counted-is a b (fresh n pt r)) ∙ omega arith)
 
   -- ---- what is recorded
   recorded-of : (r : List ℕ) (a b : Edge) → found n pt r a b ≡ true → Recorded n pt r a b
@@ -174,9 +169,6 @@ module _ (n : ℕ) (pt : ℕ → Point) where
     pub exact : Exact (t .now) (t .log)
 
   module _ (board : Board n pt) where
-    pub begin-inv : (r : List ℕ) → IsRing n r → Inv (begin n pt r)
-    begin-inv r p = record { ring-ok = p; exact = start-exact r }
-
     module _ (w : ℕ → State → ℕ) (picks : Picks w) where
       pub step-inv : (c : ℕ) (t : Traced) → Inv t → Inv (step n pt w c t)
       step-inv c t i = go (eqb (length (t .now .store .dense)) 0) refl
@@ -196,3 +188,12 @@ module _ (n : ℕ) (pt : ℕ → Point) where
       pub run-inv : (cs : List ℕ) (t : Traced) → Inv t → Inv (runW n pt w cs t)
       run-inv [] t i = i
       run-inv (c ∷ cs) t i = run-inv cs (step n pt w c t) (step-inv c t i)
+
+-- ---- the start
+module _ (n : ℕ) (pt : ℕ → Point) where
+  pub start-exact : (r : List ℕ) → Exact n pt nothingTwice (begin n pt r .now) []
+  start-exact r a b =
+      (counted-is a b (start n pt r .dense) ∙ start-count n pt r (λ x y. eqE a x && eqE b y) ∙ sym (counted-is a b (fresh n pt r)) ∙ omega arith)
+
+  pub begin-inv : (r : List ℕ) → IsRing n r → Inv n pt nothingTwice (begin n pt r)
+  begin-inv r p = record { ring-ok = p; exact = start-exact r }

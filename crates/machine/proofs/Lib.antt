@@ -21,3 +21,4 @@ pub mod Middle
 pub mod Moments
 pub mod Demand3Holds
 pub mod Accepted
+pub mod Ready

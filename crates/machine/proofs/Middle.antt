@@ -12,7 +12,7 @@ use Rattle.algebra.specs.Counting.{length-snoc}
 use Rattle.geometry.specs.Plane.{Point}
 use Rattle.index_edge.specs.Edge.{Edge, eqE, ltE}
 use Rattle.intersection_set.specs.Store.{Rec, Store, noRec, empty, push, recFor, slotFor}
-use Rattle.machine.specs.Machine.{State, Laid, pairsWith, pairs, start, begin}
+use Rattle.machine.specs.Machine.{State, Laid, nothingTwice, pairsWith, pairs, start, begin}
 use Rattle.polygon.specs.Edges.{edges}
 use Rattle.algebra.specs.Cases.{both, true-or-false}
 use Rattle.index_edge.proofs.Edges.{eqE-sym, ltE-diff}
@@ -42,12 +42,12 @@ mid-start n pt r xs ys e i h =
     ∙ ap (pairs pt E ys) (ap (λ (l : List Edge). pairsWith pt e l t) (sym (take-append-drop i E)) ∙ pairsWith-append pt e (take i E) (drop i E) t)) in
     let after : Grows u z = subst (Grows u) eq (grows-then u _ _ (pairsWith-grows pt e (drop i E) u) (pairs-grows pt E ys (pairsWith pt e (drop i E) u))) in
     let all : Grows empty z = pairs-grows pt E E empty in
-    let f : length (z .dense) ≤ n * (n - 1) = few n pt (begin n pt r .now) [] (start-exact n pt r) in
+    let f : length (z .dense) ≤ n * (n - 1) = few n pt nothingTwice (begin n pt r .now) [] (start-exact n pt r) in
     record { numbered = p; lives = omega (arith, f, after .more); slots = omega (arith, f, after .up, all .most) }
 
 -- ---- the two edges of a record differ
-pub differ-exact : (n : ℕ) (pt : ℕ → Point) (s : State) (g : List Laid) → Once (edges n (s .ring)) → Exact n pt s g → Differ (s .store .dense)
-differ-exact n pt s g o ex j h = ltE-diff (getD (s .store .dense) j noRec .e0) (getD (s .store .dense) j noRec .e1) (recorded n pt s g o ex j h .in-order)
+pub differ-exact : (n : ℕ) (pt : ℕ → Point) (was : Edge → Edge → Bool) (s : State) (g : List Laid) → Once (edges n (s .ring)) → Exact n pt was s g → Differ (s .store .dense)
+differ-exact n pt was s g o ex j h = ltE-diff (getD (s .store .dense) j noRec .e0) (getD (s .store .dense) j noRec .e1) (recorded n pt was s g o ex j h .in-order)
 
 pub differ-push : (s : Store) (a b : Edge) → eqE a b ≡ false → Differ (s .dense) → Differ (push a b s .dense)
 differ-push s a b ab d j h =

@@ -12,8 +12,9 @@ use Rattle.algebra.specs.Counting.{one}
 use Rattle.geometry.specs.Plane.{Point}
 use Rattle.index_edge.specs.Edge.{Edge}
 use Rattle.intersection_set.specs.Store.{Rec, counted}
-use Rattle.machine.specs.Machine.{State, Laid, Traced, sameHoist, fresh, carried, step, runW, begin, planOf}
+use Rattle.machine.specs.Machine.{State, Laid, Traced, doubled, nothingTwice, fresh, carried, step, runW, begin, planOf}
 use Rattle.machine.specs.Demand3.{MoveCount, Picks}
+use Rattle.machine.specs.Onward.{MovesFrom}
 use Rattle.polygon.specs.Ring.{IsRing}
 use Rattle.machine.specs.Board.{Board}
 use Rattle.index_edge.proofs.Edges.{eqE-refl}
@@ -34,15 +35,15 @@ times-none x true h = omega arith
 times-none x false h = omega arith
 
 module _ (n : ℕ) (pt : ℕ → Point) where
-  pub empty-fresh : (s : State) (g : List Laid) → Exact n pt s g → s .store .dense ≡ [] → fresh n pt (s .ring) ≡ []
-  empty-fresh s g ex h = none-counted _ (λ a b. times-none _ (sameHoist a b g) (sym (ex a b) ∙ ap (counted a b) h))
+  pub empty-fresh : (was : Edge → Edge → Bool) (s : State) (g : List Laid) → Exact n pt was s g → s .store .dense ≡ [] → fresh n pt (s .ring) ≡ []
+  empty-fresh was s g ex h = none-counted _ (λ a b. times-none _ (doubled was a b g) (sym (ex a b) ∙ ap (counted a b) h))
 
-  pub fresh-empty : (s : State) (g : List Laid) → Exact n pt s g → fresh n pt (s .ring) ≡ [] → s .store .dense ≡ []
-  fresh-empty s g ex h = none-counted _ (λ a b. ex a b ∙ ap (λ (l : List Rec). counted a b l * cond (sameHoist a b g) 2 1) h ∙ omega arith)
+  pub fresh-empty : (was : Edge → Edge → Bool) (s : State) (g : List Laid) → Exact n pt was s g → fresh n pt (s .ring) ≡ [] → s .store .dense ≡ []
+  fresh-empty was s g ex h = none-counted _ (λ a b. ex a b ∙ ap (λ (l : List Rec). counted a b l * cond (doubled was a b g) 2 1) h ∙ omega arith)
 
   -- the record is empty just where a fresh search finds none
-  pub none-left : (t : Traced) → Inv n pt t → (t .now .store .dense ≡ []) ↔ (fresh n pt (t .now .ring) ≡ [])
-  none-left t i = (empty-fresh (t .now) (t .log) (i .exact), fresh-empty (t .now) (t .log) (i .exact))
+  pub none-left : (was : Edge → Edge → Bool) (t : Traced) → Inv n pt was t → (t .now .store .dense ≡ []) ↔ (fresh n pt (t .now .ring) ≡ [])
+  none-left was t i = (empty-fresh was (t .now) (t .log) (i .exact), fresh-empty was (t .now) (t .log) (i .exact))
 
   module _ (w : ℕ → State → ℕ) where
     -- ---- once empty
@@ -104,19 +105,25 @@ module _ (n : ℕ) (pt : ℕ → Point) where
             both (true-or-false (ltb j k)) (λ u. f (ltb-true j k u)) (λ u. both (true-or-false (eqb j k)) (λ v. g (eqb-true j k v)) (λ v. h (omega (arith, ltb-false j k u, eqb-false j k v))))
 
     module _ (board : Board n pt) (picks : Picks w) where
-      inv-after : (cs r : List ℕ) → IsRing n r → Inv n pt (runW n pt w cs (begin n pt r))
-      inv-after cs r p = run-inv n pt board w picks cs (begin n pt r) (begin-inv n pt board r p)
+      -- the moves made, by fresh searches, from any state whose record is exact
+      pub moves-from : (was : Edge → Edge → Bool) (cs : List ℕ) (t : Traced) → Inv n pt was t → (k : ℕ) × (length (runW n pt w cs t .log) ≡ length (t .log) + k) × MovesFrom n pt w cs t k
+      moves-from was cs t p =
+          let i : (k : ℕ) × (length (runW n pt w cs t .log) ≡ length (t .log) + k) × MovesBy cs t k = moves-by cs t in
+          let inv : (cs : List ℕ) → Inv n pt was (runW n pt w cs t) = λ cs. run-inv n pt was board w picks cs t p in (
+            i .0,
+            i .1,
+            record {
+              within = i .2 .within;
+              before = λ j h u. i .2 .before j h (none-left was _ (inv (take j cs)) .1 u);
+              then-none = λ h. none-left was _ (inv (take (i .0) cs)) .0 (i .2 .then-none h);
+            },
+          )
 
       pub move-count : (cs r : List ℕ) → IsRing n r → MoveCount n pt w cs r (length (runW n pt w cs (begin n pt r) .log))
       move-count cs r p =
-          let i : (k : ℕ) × (length (runW n pt w cs (begin n pt r) .log) ≡ 0 + k) × MovesBy cs (begin n pt r) k = moves-by cs (begin n pt r) in
+          let i = moves-from nothingTwice cs (begin n pt r) (begin-inv n pt r p) in
           let e : i .0 ≡ length (runW n pt w cs (begin n pt r) .log) = omega (arith, i .1) in
-          subst (MoveCount n pt w cs r) e
-          (record {
-            within = i .2 .within;
-            before = λ j h u. i .2 .before j h (none-left _ (inv-after (take j cs) r p) .1 u);
-            then-none = λ h. none-left _ (inv-after (take (i .0) cs) r p) .0 (i .2 .then-none h);
-          })
+          subst (MoveCount n pt w cs r) e (record { within = i .2 .within; before = i .2 .before; then-none = i .2 .then-none })
 
   pub start-count-is : (r : List ℕ) → length (begin n pt r .now .store .dense) ≡ length (fresh n pt r)
   start-count-is r = start-length n pt r

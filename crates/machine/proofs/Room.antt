@@ -9,7 +9,7 @@ use lib.ListN.{length, take, drop, take-append-drop}
 use Rattle.geometry.specs.Plane.{Point}
 use Rattle.index_edge.specs.Edge.{Edge}
 use Rattle.intersection_set.specs.Store.{Store, Found, nothing, at-place, empty, newestFrom, removeFound, removeAllFuel, removeAll, removes, grown}
-use Rattle.machine.specs.Machine.{State, Laid, Traced, scanOver, scans, start, carry, carried, planOf, step, runW, begin}
+use Rattle.machine.specs.Machine.{State, Laid, Traced, nothingTwice, scanOver, scans, start, carry, carried, planOf, step, runW, begin}
 use Rattle.polygon.specs.Change.{Plan, lay, cut, turned, byHoist}
 use Rattle.polygon.specs.Edges.{edges}
 use Rattle.polygon.specs.Ring.{IsRing}
@@ -44,9 +44,9 @@ module _ (n : ℕ) (pt : ℕ → Point) where
     pub lives : length (u .dense) ≤ n * (n - 1)
     pub slots : grown u ≤ n * (n - 1)
 
-  -- the machine between two picks
-  pub record Whole (t : Traced) : Type 0 where
-    pub inv : Inv n pt t
+  -- the machine between two picks; `was` says which pairs were named twice before its moves
+  pub record Whole (was : Edge → Edge → Bool) (t : Traced) : Type 0 where
+    pub inv : Inv n pt was t
     pub numbered : Numbered (t .now .store)
     pub room : grown (t .now .store) ≤ n * (n - 1)
 
@@ -59,10 +59,10 @@ module _ (n : ℕ) (pt : ℕ → Point) where
   newEdges m s = edges n (turned n m (s .ring))
 
   -- in the middle of a move's searches: the new edges of xs are done, and e against i edges of the ring
-  pub mid-room : (m : Plan) (s : State) (g : List Laid) → GoodPlan n pt (s .ring) m → Exact n pt s g → Numbered (s .store) → grown (s .store) ≤ n * (n - 1)
+  pub mid-room : (was : Edge → Edge → Bool) (m : Plan) (s : State) (g : List Laid) → GoodPlan n pt (s .ring) m → Exact n pt was s g → Numbered (s .store) → grown (s .store) ≤ n * (n - 1)
       → (xs ys : List Edge) (e : Edge) (i : ℕ) → lay n m (s .ring) ≡ xs ++ e ∷ ys
       → Roomy (scanOver pt e (take i (newEdges m s)) (scans pt (newEdges m s) xs (cleared m s)))
-  mid-room m s g ok ex num room xs ys e i h =
+  mid-room was m s g ok ex num room xs ys e i h =
       let s₁ : Store = cleared m s in
       let E : List Edge = newEdges m s in
       let t : Store = scans pt E xs s₁ in
@@ -77,29 +77,29 @@ module _ (n : ℕ) (pt : ℕ → Point) where
       ∙ ap (scans pt E ys) (ap (λ (l : List Edge). scanOver pt e l t) (sym (take-append-drop i E)) ∙ scanOver-append pt e (take i E) (drop i E) t)) in
       let after : Grows u z = subst (Grows u) eq (grows-then u _ _ (scanOver-grows pt e (drop i E) u) (scans-grows pt E ys (scanOver pt e (drop i E) u))) in
       let all : Grows s₁ z = scans-grows pt E (lay n m (s .ring)) s₁ in
-      let f : length (z .dense) ≤ n * (n - 1) = few n pt (carry n pt m s) (record { hoisted = byHoist m; news = lay n m (s .ring) } ∷ g) (carry-exact n pt m s g ok ex) in
+      let f : length (z .dense) ≤ n * (n - 1) = few n pt was (carry n pt m s) (record { hoisted = byHoist m; news = lay n m (s .ring) } ∷ g) (carry-exact n pt was m s g ok ex) in
       let k : grown s₁ ≡ grown (s .store) = removes-grown (cut n m (s .ring)) (s .store) in
       record { numbered = p; lives = omega (arith, f, after .more); slots = omega (arith, f, k, after .up, all .most) }
 
   module _ (board : Board n pt) where
-    pub begin-whole : (r : List ℕ) → IsRing n r → Whole (begin n pt r)
+    pub begin-whole : (r : List ℕ) → IsRing n r → Whole nothingTwice (begin n pt r)
     begin-whole r p =
-        let i : Inv n pt (begin n pt r) = begin-inv n pt board r p in
+        let i : Inv n pt nothingTwice (begin n pt r) = begin-inv n pt r p in
         let g : Grows empty (start n pt r) = pairs-grows pt (edges n r) (edges n r) empty in
         record {
           inv = i;
           numbered = pairs-kept Numbered numbered-kept pt (edges n r) (edges n r) empty numbered-empty;
-          room = omega (arith, g .most, few n pt (begin n pt r .now) [] (i .exact));
+          room = omega (arith, g .most, few n pt nothingTwice (begin n pt r .now) [] (i .exact));
         }
 
-    module _ (w : ℕ → State → ℕ) (picks : Picks w) where
-      pub step-whole : (c : ℕ) (t : Traced) → Whole t → Whole (step n pt w c t)
-      step-whole c t i = go (eqb (length (t .now .store .dense)) 0) (step-inv n pt board w picks c t (i .inv))
+    module _ (was : Edge → Edge → Bool) (w : ℕ → State → ℕ) (picks : Picks w) where
+      pub step-whole : (c : ℕ) (t : Traced) → Whole was t → Whole was (step n pt w c t)
+      step-whole c t i = go (eqb (length (t .now .store .dense)) 0) (step-inv n pt was board w picks c t (i .inv))
         where
           m : Plan
           m = planOf n pt (t .now) (w c (t .now))
 
-          go : (b : Bool) → Inv n pt (cond b t (carried n pt m t)) → Whole (cond b t (carried n pt m t))
+          go : (b : Bool) → Inv n pt was (cond b t (carried n pt m t)) → Whole was (cond b t (carried n pt m t))
           go true j = i
           go false j =
               record {
@@ -111,10 +111,10 @@ module _ (n : ℕ) (pt : ℕ → Point) where
                       scans-grows pt (newEdges m (t .now)) (lay n m (t .now .ring)) (cleared m (t .now)) .most,
                       removes-grown (cut n m (t .now .ring)) (t .now .store),
                       i .room,
-                      few n pt (carried n pt m t .now) (carried n pt m t .log) (j .exact),
+                      few n pt was (carried n pt m t .now) (carried n pt m t .log) (j .exact),
                     );
               }
 
-      pub run-whole : (cs : List ℕ) (t : Traced) → Whole t → Whole (runW n pt w cs t)
+      pub run-whole : (cs : List ℕ) (t : Traced) → Whole was t → Whole was (runW n pt w cs t)
       run-whole [] t i = i
       run-whole (c ∷ cs) t i = run-whole cs (step n pt w c t) (step-whole c t i)

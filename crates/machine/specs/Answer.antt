@@ -38,12 +38,16 @@ module _ (n : ℕ) (pt : ℕ → Point) where
   abbrev pub finish : List ℕ → List ℕ
   finish r = cond (clockwise r) (turnedRound n r) r
 
+  -- the answer of the run t that started with k records
+  abbrev pub answerFrom : ℕ → Traced → Answer
+  answerFrom k t =
+      cond (eqb (length (t .now .store .dense)) 0)
+      (delivered (finish (t .now .ring)) (length (t .log)) k)
+      (unfinished (t .now .ring) (length (t .log)) (length (t .now .store .dense)))
+
   -- the answer of the run t from the starting ring r
   abbrev pub answer : List ℕ → Traced → Answer
-  answer r t =
-      cond (eqb (length (t .now .store .dense)) 0)
-      (delivered (finish (t .now .ring)) (length (t .log)) (length (start n pt r .dense)))
-      (unfinished (t .now .ring) (length (t .log)) (length (t .now .store .dense)))
+  answer r t = answerFrom (length (start n pt r .dense)) t
 
   -- ---- the checks
   abbrev pub inRange : Bool

@@ -33,6 +33,17 @@ sameHoist e f (m ∷ l) =
     let older = sameHoist e f l in
     cond (memberE e (m .news) || memberE f (m .news)) (m .hoisted && (memberE e (m .news) && memberE f (m .news))) older
 
+-- A pair that is named twice: as sameHoist says of the moves since some moment, and where none of them laid either edge, as `was` says of that moment.
+abbrev pub doubled : (Edge → Edge → Bool) → Edge → Edge → List Laid → Bool
+doubled was e f [] = was e f
+doubled was e f (m ∷ l) =
+    let older = doubled was e f l in
+    cond (memberE e (m .news) || memberE f (m .news)) (m .hoisted && (memberE e (m .news) && memberE f (m .news))) older
+
+-- nothing is named twice before the first move
+abbrev pub nothingTwice : Edge → Edge → Bool
+nothingTwice e f = false
+
 -- ---- searching, over the board's points
 module _ (pt : ℕ → Point) where
   -- every other edge of the list that meets e is pushed

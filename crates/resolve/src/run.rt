@@ -1,16 +1,17 @@
 // The start of a run and the loop over the picks (two_opt.rs, `resolve_self_intersections`).
 ghost use mathlib.Core.Path.{_≡_};
 ghost use mathlib.Core.Bool.{false, _&&_};
-ghost use mathlib.Core.List.{List, []};
-ghost use Prim.Native.Nat.{ℕ, _-_, _*_, _≤_, _<_};
+ghost use mathlib.Core.List.{[]};
+ghost use Prim.Native.Nat.{_≤_};
 ghost use lib.Dec.{ltb};
 ghost use lib.ListN.{length};
 ghost use Rattle.geometry.specs.Lent.{points, Lent};
 ghost use Rattle.intersection_set.specs.Pool.{lent, poolOf};
 ghost use Rattle.intersection_set.specs.Within.{Room};
-ghost use Rattle.intersection_set.specs.Holds.{Holds, Beyond};
-ghost use Rattle.machine.specs.Machine.{start, after, place};
+ghost use Rattle.intersection_set.specs.Holds.{Holds};
+ghost use Rattle.machine.specs.Machine.{State, start, runW, place};
 ghost use Rattle.machine.specs.Answer.{refusal};
+ghost use Rattle.machine.specs.Onward.{from};
 ghost use Rattle.untangle.specs.Running.{Running};
 use index_edge::IndexEdge;
 use index_edge::PointId;
@@ -50,11 +51,13 @@ pub fn begin(
     reverse: &mut [u16],
     free: &[u16],
 ) -> Counts
-    requires { ⌜ Lent n (now x) (now y) × (refusal n (points (now x) (now y)) false (now ring) ≡ 0) × Room n (lent (now heads) (now ends) (now links) (now dense) (now reverse) (now free)) ⌝ }
-    ensures { λ k. ⌜ Holds n (poolOf (lent (now (heads .exit)) (now (ends .exit)) (now (links .exit)) (now (dense .exit)) (now (reverse .exit)) (now (free .entry))) k) (start n (points (now (x .entry)) (now (y .entry))) (now (ring .entry)))
-        × Beyond (n * (n - 1)) (lent (now (heads .exit)) (now (ends .exit)) (now (links .exit)) (now (dense .exit)) (now (reverse .exit)) (now (free .entry))) (lent (now (heads .entry)) (now (ends .entry)) (now (links .entry)) (now (dense .entry)) (now (reverse .entry)) (now (free .entry))) ⌝ }
+    requires { let given = lent (now heads) (now ends) (now links) (now dense) (now reverse) (now free) in
+        ⌜ Lent n (now x) (now y) × (refusal n (points (now x) (now y)) false (now ring) ≡ 0) × Room n given ⌝ }
+    ensures { λ k.
+        let is = lent (now (heads .exit)) (now (ends .exit)) (now (links .exit)) (now (dense .exit)) (now (reverse .exit)) (now (free .entry)) in
+        ⌜ Holds n (poolOf is k) (start n (points (now (x .entry)) (now (y .entry))) (now (ring .entry))) ⌝ }
 {
-    let none = clear(n, heads);
+    let none = clear(heads);
     sweeps(
         false,
         n,
@@ -101,11 +104,15 @@ pub fn run(
     reverse: &mut [u16],
     free: &mut [u16],
 ) -> Moved
-    requires { ⌜ Lent n (now x) (now y) × ((r : List ℕ) × Running n (points (now x) (now y)) r [] (now ring) (now index) (poolOf (lent (now heads) (now ends) (now links) (now dense) (now reverse) (now free)) c)) ⌝ }
-    ensures { λ k. ⌜ ((r : List ℕ) → Running n (points (now (x .entry)) (now (y .entry))) r [] (now (ring .entry)) (now (index .entry)) (poolOf (lent (now (heads .entry)) (now (ends .entry)) (now (links .entry)) (now (dense .entry)) (now (reverse .entry)) (now (free .entry))) c)
-        → Running n (points (now (x .entry)) (now (y .entry))) r (now (picks .entry)) (now (ring .exit)) (now (index .exit)) (poolOf (lent (now (heads .exit)) (now (ends .exit)) (now (links .exit)) (now (dense .exit)) (now (reverse .exit)) (now (free .exit))) (k .counts))
-        × (length (after n (points (now (x .entry)) (now (y .entry))) place (now (picks .entry)) r .log) ≡ k .moves))
-        × Beyond (n * (n - 1)) (lent (now (heads .exit)) (now (ends .exit)) (now (links .exit)) (now (dense .exit)) (now (reverse .exit)) (now (free .exit))) (lent (now (heads .entry)) (now (ends .entry)) (now (links .entry)) (now (dense .entry)) (now (reverse .entry)) (now (free .entry))) ⌝ }
+    requires { let given = lent (now heads) (now ends) (now links) (now dense) (now reverse) (now free) in
+        ⌜ Lent n (now x) (now y) × ((s : State) × Running n (points (now x) (now y)) s [] (now ring) (now index) (poolOf given c)) ⌝ }
+    ensures { λ k.
+        let pt = points (now (x .entry)) (now (y .entry)) in
+        let was = lent (now (heads .entry)) (now (ends .entry)) (now (links .entry)) (now (dense .entry)) (now (reverse .entry)) (now (free .entry)) in
+        let is = lent (now (heads .exit)) (now (ends .exit)) (now (links .exit)) (now (dense .exit)) (now (reverse .exit)) (now (free .exit)) in
+        ⌜ ((s : State) → Running n pt s [] (now (ring .entry)) (now (index .entry)) (poolOf was c)
+        → Running n pt s (now (picks .entry)) (now (ring .exit)) (now (index .exit)) (poolOf is (k .counts))
+        × (length (runW n pt place (now (picks .entry)) (from s) .log) ≡ k .moves)) ⌝ }
 {
     let m = picks.len();
     let mut k = c;

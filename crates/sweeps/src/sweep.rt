@@ -1,6 +1,6 @@
 // Records come and go: one edge against the ring, the start, and what a move removes and inserts.
 //
-// A pool's buffers are six lent slices. What they hold is a store of records (`Holds`), and nothing past n×(n-1) is written (`Beyond`).
+// A pool's buffers are six slices of n×(n-1) entries each. What they hold is a store of records (`Holds`).
 ghost use mathlib.Core.Path.{_≡_};
 ghost use mathlib.Core.Bool.{Bool, true, false};
 ghost use Prim.Native.Nat.{ℕ, _-_, _*_, _≤_, _<_};
@@ -12,7 +12,7 @@ ghost use Rattle.polygon.specs.Edges.{edges};
 ghost use Rattle.intersection_set.specs.Store.{Store, removes};
 ghost use Rattle.intersection_set.specs.Pool.{lent, poolOf};
 ghost use Rattle.intersection_set.specs.Within.{Proper};
-ghost use Rattle.intersection_set.specs.Holds.{Holds, Beyond};
+ghost use Rattle.intersection_set.specs.Holds.{Holds};
 ghost use Rattle.machine.specs.Board.{Board};
 ghost use Rattle.sweeps.specs.Sweep.{sweepOver, Fits};
 ghost use Rattle.sweeps.specs.Few.{fewOf, source, sweepsOver, AllProper, FitAll};
@@ -44,10 +44,15 @@ pub fn sweep(
     reverse: &mut [u16],
     free: &[u16],
 ) -> Counts
-    requires { ⌜ Lent n (now x) (now y) × IsRing n (now ring) × Board n (points (now x) (now y)) × Proper n (edgeOf edge) × ((s : Store) × Holds n (poolOf (lent (now heads) (now ends) (now links) (now dense) (now reverse) (now free)) c) s × Fits n (points (now x) (now y)) (now ring) moves (edgeOf edge) s) ⌝ }
-    ensures { λ r. ⌜ ((s : Store) → Holds n (poolOf (lent (now (heads .entry)) (now (ends .entry)) (now (links .entry)) (now (dense .entry)) (now (reverse .entry)) (now (free .entry))) c) s → Fits n (points (now (x .entry)) (now (y .entry))) (now (ring .entry)) moves (edgeOf edge) s
-        → Holds n (poolOf (lent (now (heads .exit)) (now (ends .exit)) (now (links .exit)) (now (dense .exit)) (now (reverse .exit)) (now (free .entry))) r) (sweepOver (points (now (x .entry)) (now (y .entry))) moves (edgeOf edge) (edges n (now (ring .entry))) s))
-        × Beyond (n * (n - 1)) (lent (now (heads .exit)) (now (ends .exit)) (now (links .exit)) (now (dense .exit)) (now (reverse .exit)) (now (free .entry))) (lent (now (heads .entry)) (now (ends .entry)) (now (links .entry)) (now (dense .entry)) (now (reverse .entry)) (now (free .entry))) ⌝ }
+    requires { let pt = points (now x) (now y) in
+        let given = lent (now heads) (now ends) (now links) (now dense) (now reverse) (now free) in
+        ⌜ Lent n (now x) (now y) × IsRing n (now ring) × Board n pt × Proper n (edgeOf edge) × ((s : Store) × Holds n (poolOf given c) s × Fits n pt (now ring) moves (edgeOf edge) s) ⌝ }
+    ensures { λ r.
+        let pt = points (now (x .entry)) (now (y .entry)) in
+        let was = lent (now (heads .entry)) (now (ends .entry)) (now (links .entry)) (now (dense .entry)) (now (reverse .entry)) (now (free .entry)) in
+        let is = lent (now (heads .exit)) (now (ends .exit)) (now (links .exit)) (now (dense .exit)) (now (reverse .exit)) (now (free .entry)) in
+        ⌜ ((s : Store) → Holds n (poolOf was c) s → Fits n pt (now (ring .entry)) moves (edgeOf edge) s
+        → Holds n (poolOf is r) (sweepOver pt moves (edgeOf edge) (edges n (now (ring .entry))) s)) ⌝ }
 {
     let mut k = c;
     let a = segment_of(x, y, edge);
@@ -93,10 +98,15 @@ pub fn sweeps(
     reverse: &mut [u16],
     free: &[u16],
 ) -> Counts
-    requires { ⌜ Lent n (now x) (now y) × IsRing n (now ring) × Board n (points (now x) (now y)) × (inserted .count ≤ 3) × AllProper n (source moves n (now ring) inserted) × ((s : Store) × Holds n (poolOf (lent (now heads) (now ends) (now links) (now dense) (now reverse) (now free)) c) s × FitAll n (points (now x) (now y)) (now ring) moves (source moves n (now ring) inserted) s) ⌝ }
-    ensures { λ r. ⌜ ((s : Store) → Holds n (poolOf (lent (now (heads .entry)) (now (ends .entry)) (now (links .entry)) (now (dense .entry)) (now (reverse .entry)) (now (free .entry))) c) s → FitAll n (points (now (x .entry)) (now (y .entry))) (now (ring .entry)) moves (source moves n (now (ring .entry)) inserted) s
-        → Holds n (poolOf (lent (now (heads .exit)) (now (ends .exit)) (now (links .exit)) (now (dense .exit)) (now (reverse .exit)) (now (free .entry))) r) (sweepsOver (points (now (x .entry)) (now (y .entry))) moves (edges n (now (ring .entry))) (source moves n (now (ring .entry)) inserted) s))
-        × Beyond (n * (n - 1)) (lent (now (heads .exit)) (now (ends .exit)) (now (links .exit)) (now (dense .exit)) (now (reverse .exit)) (now (free .entry))) (lent (now (heads .entry)) (now (ends .entry)) (now (links .entry)) (now (dense .entry)) (now (reverse .entry)) (now (free .entry))) ⌝ }
+    requires { let pt = points (now x) (now y) in
+        let given = lent (now heads) (now ends) (now links) (now dense) (now reverse) (now free) in
+        ⌜ Lent n (now x) (now y) × IsRing n (now ring) × Board n pt × (inserted .count ≤ 3) × AllProper n (source moves n (now ring) inserted) × ((s : Store) × Holds n (poolOf given c) s × FitAll n pt (now ring) moves (source moves n (now ring) inserted) s) ⌝ }
+    ensures { λ r.
+        let pt = points (now (x .entry)) (now (y .entry)) in
+        let was = lent (now (heads .entry)) (now (ends .entry)) (now (links .entry)) (now (dense .entry)) (now (reverse .entry)) (now (free .entry)) in
+        let is = lent (now (heads .exit)) (now (ends .exit)) (now (links .exit)) (now (dense .exit)) (now (reverse .exit)) (now (free .entry)) in
+        ⌜ ((s : Store) → Holds n (poolOf was c) s → FitAll n pt (now (ring .entry)) moves (source moves n (now (ring .entry)) inserted) s
+        → Holds n (poolOf is r) (sweepsOver pt moves (edges n (now (ring .entry))) (source moves n (now (ring .entry)) inserted) s)) ⌝ }
 {
     let m = source_len(moves, n, inserted);
     let mut k = c;
@@ -135,10 +145,13 @@ pub fn remove_edges(
     reverse: &mut [u16],
     free: &mut [u16],
 ) -> Counts
-    requires { ⌜ (removed .count ≤ 3) × AllProper n (fewOf removed) × ((s : Store) × Holds n (poolOf (lent (now heads) (now ends) (now links) (now dense) (now reverse) (now free)) c) s) ⌝ }
-    ensures { λ r. ⌜ ((s : Store) → Holds n (poolOf (lent (now (heads .entry)) (now (ends .entry)) (now (links .entry)) (now (dense .entry)) (now (reverse .entry)) (now (free .entry))) c) s
-        → Holds n (poolOf (lent (now (heads .exit)) (now (ends .entry)) (now (links .exit)) (now (dense .exit)) (now (reverse .exit)) (now (free .exit))) r) (removes (fewOf removed) s))
-        × Beyond (n * (n - 1)) (lent (now (heads .exit)) (now (ends .entry)) (now (links .exit)) (now (dense .exit)) (now (reverse .exit)) (now (free .exit))) (lent (now (heads .entry)) (now (ends .entry)) (now (links .entry)) (now (dense .entry)) (now (reverse .entry)) (now (free .entry))) ⌝ }
+    requires { let given = lent (now heads) (now ends) (now links) (now dense) (now reverse) (now free) in
+        ⌜ (removed .count ≤ 3) × AllProper n (fewOf removed) × ((s : Store) × Holds n (poolOf given c) s) ⌝ }
+    ensures { λ r.
+        let was = lent (now (heads .entry)) (now (ends .entry)) (now (links .entry)) (now (dense .entry)) (now (reverse .entry)) (now (free .entry)) in
+        let is = lent (now (heads .exit)) (now (ends .entry)) (now (links .exit)) (now (dense .exit)) (now (reverse .exit)) (now (free .exit)) in
+        ⌜ ((s : Store) → Holds n (poolOf was c) s
+        → Holds n (poolOf is r) (removes (fewOf removed) s)) ⌝ }
 {
     let m = removed.count as usize;
     let mut k = c;

@@ -17,7 +17,7 @@ use moves::checks::none_alike;
 use polygon::polygon::each_once;
 
 // How many entries the buffers of the records need.
-fn record_size(n: usize) -> usize
+pub fn record_size(n: usize) -> usize
     requires { ⌜ n ≤ 256 ⌝ }
     ensures { λ r. ⌜ r ≡ n * (n - 1) ⌝ }
 {

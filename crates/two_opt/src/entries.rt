@@ -2,17 +2,16 @@
 ghost use mathlib.Core.Path.{_≡_};
 ghost use mathlib.Core.Bool.{false, cond};
 ghost use mathlib.Core.List.{List};
-ghost use Prim.Native.Nat.{ℕ, _-_, _*_};
 ghost use lib.Dec.{eqb};
-ghost use lib.ListN.{length, take};
+ghost use lib.ListN.{take};
 ghost use Rattle.algebra.specs.Ranges.{upFrom};
+ghost use Prim.Native.Nat.{ℕ};
 ghost use Rattle.geometry.specs.Lent.{points, Lent};
+ghost use Rattle.polygon.specs.Ring.{indexOf};
 ghost use Rattle.intersection_set.specs.Pool.{lent};
-ghost use Rattle.intersection_set.specs.Within.{Room};
-ghost use Rattle.intersection_set.specs.Holds.{Beyond};
-ghost use Rattle.machine.specs.Answer.{refusal, call, delivered, unfinished};
-ghost use Rattle.resolve.specs.Ended.{Counted, Ended};
-ghost use Rattle.two_opt.specs.Entry.{answerOf, shortOf, Leaves};
+ghost use Rattle.machine.specs.Answer.{refusal, delivered, unfinished};
+ghost use Rattle.two_opt.specs.Entry.{answerOf, loan, shortOf, Ran, Entry};
+use super::checks::record_size;
 use super::checks::refusal_in_order;
 use super::checks::refusal_of_ring;
 use super::checks::too_short;
@@ -44,44 +43,7 @@ fn answer_of(done: Resolved) -> Answer
     }
 }
 
-// From the points in their own order. What ring and index held is not read.
-fn from_order(
-    n: usize,
-    x: &[i32],
-    y: &[i32],
-    picks: &[u32],
-    ring: &mut [u16],
-    index: &mut [u16],
-    heads: &mut [u16],
-    ends: &mut [u64],
-    links: &mut [u64],
-    dense: &mut [u16],
-    reverse: &mut [u16],
-    free: &mut [u16],
-) -> Resolved
-    requires { ⌜ Lent n (now x) (now y) × (refusal n (points (now x) (now y)) false (upFrom 0 n) ≡ 0) × (length (now ring) ≡ n) × (length (now index) ≡ n) × Room n (lent (now heads) (now ends) (now links) (now dense) (now reverse) (now free)) ⌝ }
-    ensures { λ k. ⌜ Counted n (points (now (x .entry)) (now (y .entry))) (upFrom 0 n) (now (picks .entry)) (k .moves) (k .cross) (k .left)
-        × Ended n (points (now (x .entry)) (now (y .entry))) (upFrom 0 n) (now (picks .entry)) (now (ring .exit)) (now (index .exit)) (lent (now (heads .exit)) (now (ends .exit)) (now (links .exit)) (now (dense .exit)) (now (reverse .exit)) (now (free .exit)))
-        × Beyond (n * (n - 1)) (lent (now (heads .exit)) (now (ends .exit)) (now (links .exit)) (now (dense .exit)) (now (reverse .exit)) (now (free .exit))) (lent (now (heads .entry)) (now (ends .entry)) (now (links .entry)) (now (dense .entry)) (now (reverse .entry)) (now (free .entry))) ⌝ }
-{
-    identity(ring, index);
-    resolve(
-        n,
-        x,
-        y,
-        picks,
-        ring,
-        index,
-        heads,
-        ends,
-        links,
-        dense,
-        reverse,
-        free,
-    )
-}
-
-// From the lent ring. What index held is not read.
+// A run from the lent ring, on exactly what check 2 asks for: no function below can reach an entry past it.
 fn from_ring(
     n: usize,
     x: &[i32],
@@ -95,30 +57,33 @@ fn from_ring(
     dense: &mut [u16],
     reverse: &mut [u16],
     free: &mut [u16],
-) -> Resolved
-    requires { ⌜ Lent n (now x) (now y) × (refusal n (points (now x) (now y)) false (now ring) ≡ 0) × (length (now index) ≡ n) × Room n (lent (now heads) (now ends) (now links) (now dense) (now reverse) (now free)) ⌝ }
-    ensures { λ k. ⌜ Counted n (points (now (x .entry)) (now (y .entry))) (now (ring .entry)) (now (picks .entry)) (k .moves) (k .cross) (k .left)
-        × Ended n (points (now (x .entry)) (now (y .entry))) (now (ring .entry)) (now (picks .entry)) (now (ring .exit)) (now (index .exit)) (lent (now (heads .exit)) (now (ends .exit)) (now (links .exit)) (now (dense .exit)) (now (reverse .exit)) (now (free .exit)))
-        × Beyond (n * (n - 1)) (lent (now (heads .exit)) (now (ends .exit)) (now (links .exit)) (now (dense .exit)) (now (reverse .exit)) (now (free .exit))) (lent (now (heads .entry)) (now (ends .entry)) (now (links .entry)) (now (dense .entry)) (now (reverse .entry)) (now (free .entry))) ⌝ }
+) -> Answer
+    requires { let given = loan (now ring) (now index) (lent (now heads) (now ends) (now links) (now dense) (now reverse) (now free)) in
+        ⌜ Lent n (now x) (now y) × (shortOf n (now x) (now y) given ≡ false) × (refusal n (points (now x) (now y)) false (take n (now ring)) ≡ 0) × (take n (now index) ≡ indexOf n (take n (now ring))) ⌝ }
+    ensures { λ a.
+        let was = loan (now (ring .entry)) (now (index .entry)) (lent (now (heads .entry)) (now (ends .entry)) (now (links .entry)) (now (dense .entry)) (now (reverse .entry)) (now (free .entry))) in
+        let is = loan (now (ring .exit)) (now (index .exit)) (lent (now (heads .exit)) (now (ends .exit)) (now (links .exit)) (now (dense .exit)) (now (reverse .exit)) (now (free .exit))) in
+        ⌜ Ran n (now (x .entry)) (now (y .entry)) (now (picks .entry)) was is (answerOf a (take n (is .ring))) ⌝ }
 {
-    rebuild_index(ring, index);
-    resolve(
+    let size = record_size(n);
+    let done = resolve(
         n,
         x,
         y,
         picks,
-        ring,
-        index,
-        heads,
-        ends,
-        links,
-        dense,
-        reverse,
-        free,
-    )
+        &mut ring[0..n],
+        &mut index[0..n],
+        &mut heads[0..size],
+        &mut ends[0..size],
+        &mut links[0..size],
+        &mut dense[0..size],
+        &mut reverse[0..size],
+        &mut free[0..size],
+    );
+    answer_of(done)
 }
 
-// The loop through the points from the ring 0, 1, 2, .., one move for each pick.
+// The loop through the points from the ring 0, 1, 2, .., one move for each pick. What ring and index held is not read.
 pub fn two_opt_moves(
     n: usize,
     x: &[i32],
@@ -133,8 +98,10 @@ pub fn two_opt_moves(
     reverse: &mut [u16],
     free: &mut [u16],
 ) -> Answer
-    ensures { λ a. ⌜ (answerOf a (take n (now (ring .exit))) ≡ call n (points (now (x .entry)) (now (y .entry))) (shortOf n (now (x .entry)) (now (y .entry)) (now (ring .entry)) (now (index .entry)) (lent (now (heads .entry)) (now (ends .entry)) (now (links .entry)) (now (dense .entry)) (now (reverse .entry)) (now (free .entry)))) (upFrom 0 n) (now (picks .entry)))
-        × Leaves n (points (now (x .entry)) (now (y .entry))) (shortOf n (now (x .entry)) (now (y .entry)) (now (ring .entry)) (now (index .entry)) (lent (now (heads .entry)) (now (ends .entry)) (now (links .entry)) (now (dense .entry)) (now (reverse .entry)) (now (free .entry)))) (upFrom 0 n) (now (picks .entry)) (now (ring .entry)) (now (index .entry)) (lent (now (heads .entry)) (now (ends .entry)) (now (links .entry)) (now (dense .entry)) (now (reverse .entry)) (now (free .entry))) (now (ring .exit)) (now (index .exit)) (lent (now (heads .exit)) (now (ends .exit)) (now (links .exit)) (now (dense .exit)) (now (reverse .exit)) (now (free .exit))) ⌝ }
+    ensures { λ a.
+        let was = loan (now (ring .entry)) (now (index .entry)) (lent (now (heads .entry)) (now (ends .entry)) (now (links .entry)) (now (dense .entry)) (now (reverse .entry)) (now (free .entry))) in
+        let is = loan (now (ring .exit)) (now (index .exit)) (lent (now (heads .exit)) (now (ends .exit)) (now (links .exit)) (now (dense .exit)) (now (reverse .exit)) (now (free .exit))) in
+        ⌜ Entry n (now (x .entry)) (now (y .entry)) (upFrom 0 n) (now (picks .entry)) was is (answerOf a (take n (is .ring))) ⌝ }
 {
     let short = too_short(
         n,
@@ -153,24 +120,24 @@ pub fn two_opt_moves(
     if 0 < number {
         return Answer::Refused { number };
     }
-    let done = from_order(
+    identity(&mut ring[0..n], &mut index[0..n]);
+    from_ring(
         n,
         x,
         y,
         picks,
-        &mut ring[0..n],
-        &mut index[0..n],
+        ring,
+        index,
         heads,
         ends,
         links,
         dense,
         reverse,
         free,
-    );
-    answer_of(done)
+    )
 }
 
-// The loop from the lent ring, whose first n entries name each point once.
+// The loop from the lent ring, whose first n entries name each point once. What index held is not read.
 pub fn resolve_self_intersections(
     n: usize,
     x: &[i32],
@@ -185,8 +152,10 @@ pub fn resolve_self_intersections(
     reverse: &mut [u16],
     free: &mut [u16],
 ) -> Answer
-    ensures { λ a. ⌜ (answerOf a (take n (now (ring .exit))) ≡ call n (points (now (x .entry)) (now (y .entry))) (shortOf n (now (x .entry)) (now (y .entry)) (now (ring .entry)) (now (index .entry)) (lent (now (heads .entry)) (now (ends .entry)) (now (links .entry)) (now (dense .entry)) (now (reverse .entry)) (now (free .entry)))) (take n (now (ring .entry))) (now (picks .entry)))
-        × Leaves n (points (now (x .entry)) (now (y .entry))) (shortOf n (now (x .entry)) (now (y .entry)) (now (ring .entry)) (now (index .entry)) (lent (now (heads .entry)) (now (ends .entry)) (now (links .entry)) (now (dense .entry)) (now (reverse .entry)) (now (free .entry)))) (take n (now (ring .entry))) (now (picks .entry)) (now (ring .entry)) (now (index .entry)) (lent (now (heads .entry)) (now (ends .entry)) (now (links .entry)) (now (dense .entry)) (now (reverse .entry)) (now (free .entry))) (now (ring .exit)) (now (index .exit)) (lent (now (heads .exit)) (now (ends .exit)) (now (links .exit)) (now (dense .exit)) (now (reverse .exit)) (now (free .exit))) ⌝ }
+    ensures { λ a.
+        let was = loan (now (ring .entry)) (now (index .entry)) (lent (now (heads .entry)) (now (ends .entry)) (now (links .entry)) (now (dense .entry)) (now (reverse .entry)) (now (free .entry))) in
+        let is = loan (now (ring .exit)) (now (index .exit)) (lent (now (heads .exit)) (now (ends .exit)) (now (links .exit)) (now (dense .exit)) (now (reverse .exit)) (now (free .exit))) in
+        ⌜ Entry n (now (x .entry)) (now (y .entry)) (take n (now (ring .entry))) (now (picks .entry)) was is (answerOf a (take n (is .ring))) ⌝ }
 {
     let short = too_short(
         n,
@@ -205,19 +174,19 @@ pub fn resolve_self_intersections(
     if 0 < number {
         return Answer::Refused { number };
     }
-    let done = from_ring(
+    rebuild_index(&ring[0..n], &mut index[0..n]);
+    from_ring(
         n,
         x,
         y,
         picks,
-        &mut ring[0..n],
-        &mut index[0..n],
+        ring,
+        index,
         heads,
         ends,
         links,
         dense,
         reverse,
         free,
-    );
-    answer_of(done)
+    )
 }

@@ -24,13 +24,15 @@ use Rattle.intersection_set.specs.Within.{Proper}
 use Rattle.intersection_set.specs.Holds.{Holds}
 use Rattle.machine.specs.Board.{Board}
 use Rattle.machine.specs.Search.{planAt}
-use Rattle.machine.specs.Machine.{State, Traced, place, step, carry, carried, planOf, begin, after, scans}
+use Rattle.machine.specs.Machine.{State, Traced, place, carry, carried, runW, scans}
+use Rattle.machine.specs.Onward.{from, twiceOf, Ready}
 use Rattle.machine.proofs.GoodPlan.{GoodPlan, Recorded, once-edges, good-plan, plan-fits, plan-ring}
 use Rattle.machine.proofs.Exactly.{recorded, carry-exact}
 use Rattle.machine.proofs.Bounds.{few}
-use Rattle.machine.proofs.Room.{Whole, begin-whole, run-whole}
+use Rattle.machine.proofs.Room.{Whole, run-whole}
+use Rattle.machine.proofs.Ready.{ready-whole}
 use Rattle.machine.proofs.Moves.{run-append}
-use Rattle.machine.proofs.Accepted.{Accepted, accepted, place-picks}
+use Rattle.machine.proofs.Accepted.{place-picks}
 use Rattle.moves.specs.Plan.{Crossing}
 use Rattle.sweeps.specs.Few.{nowhere, AllProper, FitAll}
 use Rattle.sweeps.proofs.Sweeping.{proper-at}
@@ -54,12 +56,12 @@ cut-proper n (hoist k p) r w ring two (suc (suc zero)) h = proper-at ring two p 
 cut-proper n (hoist k p) r w ring two (suc (suc (suc i))) h = absurd (omega arith)
 
 -- ---- the machine between two picks
-module _ (n : ℕ) (pt : ℕ → Point) (r cs : List ℕ) (ok : Accepted n pt false r) where
+module _ (n : ℕ) (pt : ℕ → Point) (board : Board n pt) (s : State) (ready : Ready n pt s) (cs : List ℕ) where
   abbrev t : Traced
-  t = after n pt place cs r
+  t = runW n pt place cs (from s)
 
-  pub whole-after : Whole n pt t
-  whole-after = run-whole n pt (ok .board) place place-picks cs (begin n pt r) (begin-whole n pt (ok .board) r (ok .ring))
+  pub whole-after : Whole n pt (twiceOf s) t
+  whole-after = run-whole n pt board (twiceOf s) place place-picks cs (from s) (ready-whole n pt board s ready)
 
   abbrev ring : List ℕ
   ring = t .now .ring
@@ -71,7 +73,7 @@ module _ (n : ℕ) (pt : ℕ → Point) (r cs : List ℕ) (ok : Accepted n pt fa
   ring-ok = whole-after .inv .ring-ok
 
   two : 2 ≤ n
-  two = omega (arith, ok .board .three)
+  two = omega (arith, board .three)
 
   module _ (c : ℕ) (some : 0 < length (store .dense)) where
     abbrev first : Edge
@@ -81,13 +83,13 @@ module _ (n : ℕ) (pt : ℕ → Point) (r cs : List ℕ) (ok : Accepted n pt fa
     second = getD (store .dense) (chosen c store) noRec .e1
 
     named : Recorded n pt ring first second
-    named = recorded n pt (t .now) (t .log) (once-edges n ring ring-ok (ok .board .three)) (whole-after .inv .exact) (chosen c store) (mod-lt c some)
+    named = recorded n pt (twiceOf s) (t .now) (t .log) (once-edges n ring ring-ok (board .three)) (whole-after .inv .exact) (chosen c store) (mod-lt c some)
 
     abbrev plan : Plan
     plan = planAt n pt ring (direct n ring first) (direct n ring second)
 
     good : GoodPlan n pt ring plan
-    good = good-plan n pt (ok .board) ring ring-ok first second named
+    good = good-plan n pt board ring ring-ok first second named
 
     crossing : Crossing n pt ring first second
     crossing = record {
@@ -98,10 +100,10 @@ module _ (n : ℕ) (pt : ℕ → Point) (r cs : List ℕ) (ok : Accepted n pt fa
     }
 
     fits : Fits n plan
-    fits = plan-fits n pt (ok .board) ring ring-ok first second named
+    fits = plan-fits n pt board ring ring-ok first second named
 
     next-ring : IsRing n (turned n plan ring)
-    next-ring = plan-ring n pt (ok .board) ring ring-ok first second named
+    next-ring = plan-ring n pt board ring ring-ok first second named
 
     lay-proper : AllProper n (lay n plan ring)
     lay-proper i h =
@@ -111,72 +113,71 @@ module _ (n : ℕ) (pt : ℕ → Point) (r cs : List ℕ) (ok : Accepted n pt fa
         subst (Proper n) p (proper-at next-ring two j lj)
 
     room : FitAll n pt (turned n plan ring) true (lay n plan ring) (removes (cut n plan ring) store)
-    room = record { few = few n pt (carry n pt plan (t .now)) (record { hoisted = byHoist plan; news = lay n plan ring } ∷ t .log) (carry-exact n pt plan (t .now) (t .log) good (whole-after .inv .exact)) }
+    room = record { few = few n pt (twiceOf s) (carry n pt plan (t .now)) (record { hoisted = byHoist plan; news = lay n plan ring } ∷ t .log) (carry-exact n pt (twiceOf s) plan (t .now) (t .log) good (whole-after .inv .exact)) }
 
-    next-state : stateAfter n pt r (cs ++ c ∷ []) ≡ carry n pt plan (t .now)
+    next-state : stateAfter n pt s (cs ++ c ∷ []) ≡ carry n pt plan (t .now)
     next-state =
-        ap (λ (u : Traced). u .now) (run-append n pt place cs (c ∷ []) (begin n pt r))
+        ap (λ (u : Traced). u .now) (run-append n pt place cs (c ∷ []) (from s))
         ∙ ap (λ (b : Bool). cond b t (carried n pt plan t) .now) (ne-eqb (length (store .dense)) 0 (λ z. (let h = some in omega arith)))
 
 -- ---- the same of what the code holds
-module _ {n : ℕ} {pt : ℕ → Point} {r cs ring' index : List ℕ} {p : Pool} {c : ℕ} {e f : Edge} (run : Running n pt r cs ring' index p) (pick : Picked n pt r cs c e f) where
-  ok : Accepted n pt false r
-  ok = accepted n pt false r .0 (run .accepted)
-
+module _ {n : ℕ} {pt : ℕ → Point} {s : State} {cs ring' index : List ℕ} {p : Pool} {c : ℕ} {e f : Edge} (run : Running n pt s cs ring' index p) (pick : Picked n pt s cs c e f) where
   pub the-board : Board n pt
-  the-board = ok .board
+  the-board = run .board
 
   at-least-two : 2 ≤ n
-  at-least-two = two n pt r cs ok
+  at-least-two = two n pt (run .board) s (run .ready) cs
 
   pub small : n ≤ 256
-  small = ok .few
+  small = run .few
 
   pub the-ring : IsRing n ring'
-  the-ring = subst⁻¹ (IsRing n) (run .same-ring) (ring-ok n pt r cs ok)
+  the-ring = subst⁻¹ (IsRing n) (run .same-ring) (ring-ok n pt (run .board) s (run .ready) cs)
 
   pub inverse : Indexed n ring' index
   inverse = indexed-of the-ring (run .same-index)
 
   pub crosses : Crossing n pt ring' e f
-  crosses = rw (run .same-ring, pick .first, pick .second) (crossing n pt r cs ok c (pick .some))
+  crosses = rw (run .same-ring, pick .first, pick .second) (crossing n pt (run .board) s (run .ready) cs c (pick .some))
 
   abbrev pub the-plan : Plan
   the-plan = planAt n pt ring' (direct n ring' e) (direct n ring' f)
 
-  same-plan : the-plan ≡ plan n pt r cs ok c (pick .some)
+  same-plan : the-plan ≡ plan n pt (run .board) s (run .ready) cs c (pick .some)
   same-plan = λ i. planAt n pt (run .same-ring i) (direct n (run .same-ring i) (pick .first i)) (direct n (run .same-ring i) (pick .second i))
 
   pub plan-fits-ring : Fits n the-plan
-  plan-fits-ring = rw same-plan (fits n pt r cs ok c (pick .some))
+  plan-fits-ring = rw same-plan (fits n pt (run .board) s (run .ready) cs c (pick .some))
 
   pub cuts-proper : AllProper n (cut n the-plan ring')
   cuts-proper = cut-proper n the-plan ring' plan-fits-ring the-ring at-least-two
 
   pub lays-proper : AllProper n (lay n the-plan ring')
-  lays-proper = rw (same-plan, run .same-ring) (lay-proper n pt r cs ok c (pick .some))
+  lays-proper = rw (same-plan, run .same-ring) (lay-proper n pt (run .board) s (run .ready) cs c (pick .some))
 
   pub turned-is-ring : IsRing n (turned n the-plan ring')
-  turned-is-ring = rw (same-plan, run .same-ring) (next-ring n pt r cs ok c (pick .some))
+  turned-is-ring = rw (same-plan, run .same-ring) (next-ring n pt (run .board) s (run .ready) cs c (pick .some))
 
-  pub leaves-room : FitAll n pt (turned n the-plan ring') true (lay n the-plan ring') (removes (cut n the-plan ring') (stateAfter n pt r cs .store))
-  leaves-room = rw (same-plan, run .same-ring) (room n pt r cs ok c (pick .some))
+  pub leaves-room : FitAll n pt (turned n the-plan ring') true (lay n the-plan ring') (removes (cut n the-plan ring') (stateAfter n pt s cs .store))
+  leaves-room = rw (same-plan, run .same-ring) (room n pt (run .board) s (run .ready) cs c (pick .some))
 
-  pub then-ring : turned n the-plan ring' ≡ stateAfter n pt r (cs ++ c ∷ []) .ring
-  then-ring = rw (same-plan, run .same-ring) (sym (ap (λ (u : State). u .ring) (next-state n pt r cs ok c (pick .some))))
+  pub then-ring : turned n the-plan ring' ≡ stateAfter n pt s (cs ++ c ∷ []) .ring
+  then-ring = rw (same-plan, run .same-ring) (sym (ap (λ (u : State). u .ring) (next-state n pt (run .board) s (run .ready) cs c (pick .some))))
 
-  pub then-store : scans pt (edges n (turned n the-plan ring')) (lay n the-plan ring') (removes (cut n the-plan ring') (stateAfter n pt r cs .store)) ≡ stateAfter n pt r (cs ++ c ∷ []) .store
-  then-store = rw (same-plan, run .same-ring) (sym (ap (λ (u : State). u .store) (next-state n pt r cs ok c (pick .some))))
+  pub then-store : scans pt (edges n (turned n the-plan ring')) (lay n the-plan ring') (removes (cut n the-plan ring') (stateAfter n pt s cs .store)) ≡ stateAfter n pt s (cs ++ c ∷ []) .store
+  then-store = rw (same-plan, run .same-ring) (sym (ap (λ (u : State). u .store) (next-state n pt (run .board) s (run .ready) cs c (pick .some))))
 
   -- ---- the code's values, each known by an equation: the ring after the move, the edges inserted and those removed
   module _ {ring₁ : List ℕ} {ins rem : List Edge} (er : ring₁ ≡ turned n the-plan ring') (ei : ins ≡ lay n the-plan ring') (ed : rem ≡ cut n the-plan ring') where
-    pub room-as : FitAll n pt ring₁ true ins (removes rem (stateAfter n pt r cs .store))
+    pub room-as : FitAll n pt ring₁ true ins (removes rem (stateAfter n pt s cs .store))
     room-as = rw (er, ei, ed) leaves-room
 
-    pub next-running : {index₁ : List ℕ} {p₁ : Pool} → index₁ ≡ indexOf n ring₁ → Holds n p₁ (scans pt (edges n ring₁) ins (removes rem (stateAfter n pt r cs .store))) → Running n pt r (cs ++ c ∷ []) ring₁ index₁ p₁
+    pub next-running : {index₁ : List ℕ} {p₁ : Pool} → index₁ ≡ indexOf n ring₁ → Holds n p₁ (scans pt (edges n ring₁) ins (removes rem (stateAfter n pt s cs .store))) → Running n pt s (cs ++ c ∷ []) ring₁ index₁ p₁
     next-running {p₁ = p₁} ex h = record {
-      accepted = run .accepted;
+      few = run .few;
+      board = run .board;
+      ready = run .ready;
       same-ring = er ∙ then-ring;
       same-index = ex;
-      holds = subst (Holds n p₁) ((λ i. scans pt (edges n (er i)) (ei i) (removes (ed i) (stateAfter n pt r cs .store))) ∙ then-store) h;
+      holds = subst (Holds n p₁) ((λ i. scans pt (edges n (er i)) (ei i) (removes (ed i) (stateAfter n pt s cs .store))) ∙ then-store) h;
     }

@@ -6,7 +6,7 @@ ghost use lib.ListN.{length};
 ghost use Rattle.geometry.specs.Lent.{points, Lent};
 ghost use Rattle.index_edge.specs.Number.{edgeOf};
 ghost use Rattle.intersection_set.specs.Pool.{lent, poolOf};
-ghost use Rattle.intersection_set.specs.Holds.{Beyond};
+ghost use Rattle.machine.specs.Machine.{State};
 ghost use Rattle.untangle.specs.Running.{Running, Picked};
 use super::change::inserted_edges;
 use super::change::removed_edges;
@@ -33,10 +33,15 @@ pub fn untangle(
     reverse: &mut [u16],
     free: &mut [u16],
 ) -> Counts
-    requires { ⌜ Lent n (now x) (now y) × ((r cs : List ℕ) × (pick : ℕ) × Running n (points (now x) (now y)) r cs (now ring) (now index) (poolOf (lent (now heads) (now ends) (now links) (now dense) (now reverse) (now free)) c) × Picked n (points (now x) (now y)) r cs pick (edgeOf (isect .min)) (edgeOf (isect .max))) ⌝ }
-    ensures { λ k. ⌜ ((r cs : List ℕ) (pick : ℕ) → Running n (points (now (x .entry)) (now (y .entry))) r cs (now (ring .entry)) (now (index .entry)) (poolOf (lent (now (heads .entry)) (now (ends .entry)) (now (links .entry)) (now (dense .entry)) (now (reverse .entry)) (now (free .entry))) c) → Picked n (points (now (x .entry)) (now (y .entry))) r cs pick (edgeOf (isect .min)) (edgeOf (isect .max))
-        → Running n (points (now (x .entry)) (now (y .entry))) r (cs ++ pick ∷ []) (now (ring .exit)) (now (index .exit)) (poolOf (lent (now (heads .exit)) (now (ends .exit)) (now (links .exit)) (now (dense .exit)) (now (reverse .exit)) (now (free .exit))) k))
-        × Beyond (n * (n - 1)) (lent (now (heads .exit)) (now (ends .exit)) (now (links .exit)) (now (dense .exit)) (now (reverse .exit)) (now (free .exit))) (lent (now (heads .entry)) (now (ends .entry)) (now (links .entry)) (now (dense .entry)) (now (reverse .entry)) (now (free .entry))) ⌝ }
+    requires { let pt = points (now x) (now y) in
+        let given = lent (now heads) (now ends) (now links) (now dense) (now reverse) (now free) in
+        ⌜ Lent n (now x) (now y) × ((s : State) × (cs : List ℕ) × (pick : ℕ) × Running n pt s cs (now ring) (now index) (poolOf given c) × Picked n pt s cs pick (edgeOf (isect .min)) (edgeOf (isect .max))) ⌝ }
+    ensures { λ k.
+        let pt = points (now (x .entry)) (now (y .entry)) in
+        let was = lent (now (heads .entry)) (now (ends .entry)) (now (links .entry)) (now (dense .entry)) (now (reverse .entry)) (now (free .entry)) in
+        let is = lent (now (heads .exit)) (now (ends .exit)) (now (links .exit)) (now (dense .exit)) (now (reverse .exit)) (now (free .exit)) in
+        ⌜ ((s : State) (cs : List ℕ) (pick : ℕ) → Running n pt s cs (now (ring .entry)) (now (index .entry)) (poolOf was c) → Picked n pt s cs pick (edgeOf (isect .min)) (edgeOf (isect .max))
+        → Running n pt s (cs ++ pick ∷ []) (now (ring .exit)) (now (index .exit)) (poolOf is k)) ⌝ }
 {
     let min = isect.min;
     let max = isect.max;

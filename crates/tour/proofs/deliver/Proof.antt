@@ -56,7 +56,7 @@ tell-requires c κs =
       λ m k e.
           ring-drawn n (now (a .x)) (now (a .y)) _ (s .pre .0)
           (delivered-ring n pt (cramped n (now (a .x)) (now (a .y))) (upFrom 0 n) (now (a .picks))
-          (sym (r .ensures .0) ∙ ap (λ t. answerOf t (take n (r .last .1 .1 .1 .1 .0))) e)),
+          (sym (r .ensures .answers) ∙ ap (λ t. answerOf t (take n (r .last .1 .1 .1 .1 .0))) e)),
     )
 
 same-length : tie.Need-same-length
@@ -68,7 +68,7 @@ returns c =
     let a = s .args in
     let n = a .n in
     let pt = points (now (a .x)) (now (a .y)) in
-    let e = c .before .before .before .before .before .before .before .before .before .before .before .before .before .two-opt-moves .ensures .0 ∙ ap (λ t. call n pt t (upFrom 0 n) (now (a .picks))) (roomy n (now (a .x)) (now (a .y)) (s .pre .0) (s .pre .1)) in
+    let e = c .before .before .before .before .before .before .before .before .before .before .before .before .before .two-opt-moves .ensures .answers ∙ ap (λ t. call n pt t (upFrom 0 n) (now (a .picks))) (roomy n (now (a .x)) (now (a .y)) (s .pre .0) (s .pre .1)) in
     (subst (λ (t : Answer). Put (now (a .out)) 0 (told pt t) (c .before .before .tell .result) (c .before .before .tell .last .1 .1 .1 .1 .1 .0)) e (c .before .before .tell .ensures .0), c .before .before .tell .ensures .1)
 
 pub deliver-spec : {M : Type 1} → statement M

@@ -1,6 +1,4 @@
 -- `tour_resolve_self_intersections` meets its contract: it is the answer of the entry in numbers, and the buffers are the entry's.
-use mathlib.Core.Path.{_∙_, ap}
-use Rattle.host.specs.Numbers.{inNumbers}
 use borrow.Author.Needs.{needs}
 use Rattle.host.proofs.loops.tour_resolve_self_intersections.Statement.{statement}
 use Rattle.host.proofs.loops.tour_resolve_self_intersections.Tie as tie
@@ -36,7 +34,7 @@ same-length-8 : tie.Need-same-length-8
 same-length-8 c = search needs
 
 returns : tie.Need-returns
-returns c = (c .in-numbers .ensures _ ∙ ap inNumbers (c .before .before .before .before .before .before .before .before .before .before .before .before .before .before .before .before .before .resolve-self-intersections .ensures .0), c .before .before .before .before .before .before .before .before .before .before .before .before .before .before .before .before .before .resolve-self-intersections .ensures .1)
+returns c = (_, c .in-numbers .ensures _, c .before .before .before .before .before .before .before .before .before .before .before .before .before .before .before .before .before .resolve-self-intersections .ensures)
 
 pub tour-resolve-self-intersections-spec : {M : Type 1} → statement M
 tour-resolve-self-intersections-spec =

@@ -5,19 +5,18 @@ use mathlib.Core.List.{List}
 use native.Mathlib.Omega.{arith}
 use lib.ListN.{length, set, length-set}
 use Rattle.intersection_set.specs.Lists.{none}
-use Rattle.intersection_set.specs.Pool.{fill}
-use Rattle.intersection_set.proofs.Filling.{fill-zero, fill-suc}
+use Rattle.intersection_set.proofs.Filling.{fill, fill-zero, fill-suc, fill-all}
 use Rattle.intersection_set.proofs.intersection_set.clear_heads.Statement.{statement}
 use Rattle.intersection_set.proofs.intersection_set.clear_heads.Tie as tie
 
 abbrev Inv-loop : tie.InvT-loop
-Inv-loop size heads₀ i₀ heads i = (i ≤ size) × (size ≤ length heads₀) × (heads ≡ fill i heads₀) × (length heads ≡ length heads₀)
+Inv-loop heads₀ size i₀ heads i = (i ≤ size) × (size ≡ length heads₀) × (heads ≡ fill i heads₀) × (length heads ≡ length heads₀)
 
 abbrev μ-loop : tie.MeasureT-loop
-μ-loop size heads₀ i₀ heads i = size - i
+μ-loop heads₀ size i₀ heads i = size - i
 
 loop-holds : tie.Need-loop-holds Inv-loop μ-loop
-loop-holds c = (omega arith, c .pre, fill-zero _, refl)
+loop-holds c = (omega arith, refl, fill-zero _, refl)
 
 mul-heads : tie.Need-mul-heads Inv-loop μ-loop
 mul-heads c = omega arith
@@ -33,10 +32,11 @@ loop-less c = omega arith
 
 loop-again : tie.Need-loop-again Inv-loop μ-loop
 loop-again c =
-    let v = c .before .loop .inv in (
+    let v = c .before .loop .inv in
+    let s = c .before .before .args .heads .now in (
       omega arith,
       v .1,
-      ap (λ (l : List ℕ). set l (c .before .loop .i) none) (v .2) ∙ fill-suc (c .before .loop .i) (c .before .before .args .heads .now) (omega arith),
+      ap (λ (l : List ℕ). set l (c .before .loop .i) none) (v .2) ∙ fill-suc (c .before .loop .i) s (omega arith),
       length-set (c .before .loop .heads) (c .before .loop .i) none ∙ v .3,
     )
 
@@ -45,8 +45,9 @@ same-length c = c .before .loop .inv .3
 
 returns : tie.Need-returns Inv-loop μ-loop
 returns c =
-    let e : c .before .loop .i ≡ c .before .before .args .size = omega arith in
-    c .before .loop .inv .2 ∙ ap (λ (k : ℕ). fill k (c .before .before .args .heads .now)) e
+    let s = c .before .before .args .heads .now in
+    let e : c .before .loop .i ≡ length s = omega arith in
+    c .before .loop .inv .2 ∙ ap (λ (k : ℕ). fill k s) e ∙ fill-all s
 
 pub clear-heads-spec : {M : Type 1} → statement M
 clear-heads-spec =

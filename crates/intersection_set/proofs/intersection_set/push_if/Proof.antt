@@ -1,11 +1,9 @@
 -- `push_if` meets its contract: where it pushes, buffers that held a store hold the store after the push.
-use Prim.Native.Nat.{_-_, _*_}
 use denote.Ref.{now}
 use Rattle.index_edge.specs.Edge.{Edge}
 use Rattle.index_edge.specs.Number.{edgeOf}
 use Rattle.intersection_set.specs.Pool.{Pool, lent, poolOf}
-use Rattle.intersection_set.proofs.PastTheEnd.{beyond-self, beyond-words}
-use Rattle.intersection_set.proofs.Pushing.{push-allowed, push-holds, push-beyond, no-push-holds}
+use Rattle.intersection_set.proofs.Pushing.{push-allowed, push-holds, no-push-holds}
 use borrow.Author.Needs.{needs}
 use Rattle.intersection_set.proofs.intersection_set.push_if.Statement.{statement}
 use Rattle.intersection_set.proofs.intersection_set.push_if.Tie as tie
@@ -46,21 +44,14 @@ same-length-5 : tie.Need-same-length-5
 same-length-5 c = search needs
 
 returns : tie.Need-returns
-returns c = let b = c .before .before .before .before .before .before .before .before .before .before .before .before .before .before .before .before .before .before .before .before .before .before .before .before in
-    let n = b .args .n in
+returns c =
+    let b = c .before .before .before .before .before .before .before .before .before .before .before .before .before .before .before .before .before .before .before .before .before .before .before .before in
     let t = c .before .before .before .before .before .before .before .before .before .before .before .before .before .before .before .before .before .if1 .taken in
-    let ee = c .before .before .before .before .before .before .before .before .before .before .before .before .before .before .before .before .new .ensures .0 in
-    let ef = c .before .before .before .before .before .before .before .before .before .before .before .before .before .before .before .before .new .ensures .1 in
-    let m = b .pre t in (
-      λ s h may. push-holds n (pool b) s h (e b) (f b) ee ef (may t) (c .before .before .before .before .before .before .before .before .before .before .push .ensures) t,
-      beyond-words (n * (n - 1)) _ _ (push-beyond n (pool b) (m .0) (m .1) (e b) (f b) ee ef (m .2) (c .before .before .before .before .before .before .before .before .before .before .push .ensures)),
-    )
+    let new = c .before .before .before .before .before .before .before .before .before .before .before .before .before .before .before .before .new .ensures in
+    λ s h may. push-holds (b .args .n) (pool b) s h (e b) (f b) (new .0) (new .1) (may t) (c .before .before .before .before .before .before .before .before .before .before .push .ensures) t
 
 returns-2 : tie.Need-returns-2
-returns-2 c = let b = c .before .before .before .before .before .before .before in (
-  λ s h may. no-push-holds (b .args .n) (pool b) s h (e b) (f b) (c .if1 .left),
-  beyond-self _ _,
-)
+returns-2 c = let b = c .before .before .before .before .before .before .before in λ s h may. no-push-holds (b .args .n) (pool b) s h (e b) (f b) (c .if1 .left)
 
 pub push-if-spec : {M : Type 1} → statement M
 push-if-spec =

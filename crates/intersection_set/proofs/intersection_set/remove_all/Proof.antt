@@ -1,6 +1,6 @@
 -- `remove_all` meets its contract: each turn takes out the newest record that is left, so that what remains to be done gives the same
 -- pool, and fewer records live.
-use Prim.Native.Nat.{ℕ, _-_, _*_}
+use Prim.Native.Nat.{ℕ}
 use mathlib.Core.Path.{_≡_, refl, sym, ap, _∙_, subst⁻¹}
 use mathlib.Core.Logic.{_≢_}
 use native.Mathlib.Omega.{arith}
@@ -14,8 +14,7 @@ use Rattle.intersection_set.specs.Pool.{nextsIn, Pool, lent, poolOf, hea
 use Rattle.intersection_set.specs.Within.{RemoveOk, Drained}
 use Rattle.intersection_set.proofs.Words.{as-many}
 use Rattle.intersection_set.proofs.Lengths.{SameSize, same-self, same-trans, sizes-remove, live-remove, drained-next, all-none, all-some}
-use Rattle.intersection_set.proofs.PastTheEnd.{beyond-words}
-use Rattle.intersection_set.proofs.Removing.{drained, head-there, removed-holds, removed-beyond}
+use Rattle.intersection_set.proofs.Removing.{drained, head-there, removed-holds}
 use Rattle.intersection_set.proofs.intersection_set.remove_all.Statement.{statement}
 use Rattle.intersection_set.proofs.intersection_set.remove_all.Tie as tie
 
@@ -130,10 +129,8 @@ returns c =
     let e = edgeOf (b .args .e) in
     let inv = c .before .before .loop .inv in
     let z = eqb-true (c .before .before .loop .newest .0) none (sym (c .before .is-none .ensures) ∙ not-false (c .before .is-none .result) (c .if1 .left)) in
-    let q = sym (all-none n e (c .before .before .loop .k .live) (here (c .before .before)) (sym (inv .0) ∙ z)) ∙ inv .2 in (
-      λ s h. removed-holds n e (b .pre .0) (start b) s h q,
-      beyond-words (n * (n - 1)) _ _ (removed-beyond n e (b .pre .0) (start b) (b .pre .1 .0) (b .pre .1 .1) q),
-    )
+    let q = sym (all-none n e (c .before .before .loop .k .live) (here (c .before .before)) (sym (inv .0) ∙ z)) ∙ inv .2 in
+    λ s h. removed-holds n e (b .pre .0) (start b) s h q
 
 pub remove-all-spec : {M : Type 1} → statement M
 remove-all-spec =

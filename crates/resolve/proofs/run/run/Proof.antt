@@ -2,7 +2,7 @@
 use mathlib.Core.Path.{_≡_, refl, sym, _∙_, subst}
 use mathlib.Core.Bool.{true, _&&_}
 use mathlib.Core.List.{List, []}
-use Prim.Native.Nat.{ℕ, _+_, _-_, _*_, _≤_, _<_}
+use Prim.Native.Nat.{ℕ, _+_, _-_, _≤_, _<_}
 use native.Mathlib.Omega.{arith}
 use borrow.Author.Needs.{needs}
 use borrow.Author.Tests.{ltb-true}
@@ -12,10 +12,9 @@ use denote.Ref.{now}
 use Rattle.algebra.specs.Cases.{and-left, and-right}
 use Rattle.geometry.specs.Lent.{points}
 use Rattle.intersection_set.specs.Pool.{lent, poolOf}
-use Rattle.intersection_set.specs.Holds.{Beyond}
 use Rattle.intersection_set.proofs.Lengths.{AsLong, as-long-self}
-use Rattle.intersection_set.proofs.PastTheEnd.{beyond-self, beyond-then}
-use Rattle.machine.specs.Machine.{after, place}
+use Rattle.machine.specs.Machine.{State, runW, place}
+use Rattle.machine.specs.Onward.{from}
 use Rattle.untangle.specs.Running.{Running}
 use Rattle.resolve.proofs.Picking.{take-more, running-more, picked, one-more, ended, moves-made}
 use Rattle.resolve.proofs.run.run.Statement.{statement}
@@ -28,8 +27,7 @@ Inv-loop n x y picks ring₀ index₀ heads₀ ends₀ links₀ dense₀ reverse
     let b₀ = lent heads₀ ends₀ links₀ dense₀ reverse₀ free₀ in
     let p₀ = poolOf b₀ k₀ in
     (i ≤ length picks) × AsLong b b₀ × (length ring ≡ length ring₀) × (length index ≡ length index₀)
-    × ((r : List ℕ) → Running n (points x y) r [] ring₀ index₀ p₀ → Running n (points x y) r (take i picks) ring index p × (length (after n (points x y) place (take i picks) r .log) ≡ i))
-    × Beyond (n * (n - 1)) b b₀
+    × ((s : State) → Running n (points x y) s [] ring₀ index₀ p₀ → Running n (points x y) s (take i picks) ring index p × (length (runW n (points x y) place (take i picks) (from s) .log) ≡ i))
     × (more ≡ (ltb i (length picks) && ltb 0 (k .live)))
 
 abbrev μ-loop : tie.MeasureT-loop
@@ -39,12 +37,12 @@ goes-on-requires : tie.Need-goes-on-requires Inv-loop μ-loop
 goes-on-requires c κs = search needs
 
 loop-holds : tie.Need-loop-holds Inv-loop μ-loop
-loop-holds c = (omega arith, as-long-self _, refl, refl, λ r h. (h, refl), beyond-self _ _, c .goes-on .ensures)
+loop-holds c = (omega arith, as-long-self _, refl, refl, λ r h. (h, refl), c .goes-on .ensures)
 
 -- a pick and a record are left
 left : (c : tie.In-loop Inv-loop μ-loop) → (c .before .loop .i < length (now (c .before .before .before .before .before .before .before .before .before .before .before .before .args .picks))) × (0 < c .before .loop .k .live)
 left c =
-    let t : (ltb (c .before .loop .i) (length (now (c .before .before .before .before .before .before .before .before .before .before .before .before .args .picks))) && ltb 0 (c .before .loop .k .live)) ≡ true = sym (c .before .loop .inv .6) ∙ c .loop-test .taken in
+    let t : (ltb (c .before .loop .i) (length (now (c .before .before .before .before .before .before .before .before .before .before .before .before .args .picks))) && ltb 0 (c .before .loop .k .live)) ≡ true = sym (c .before .loop .inv .5) ∙ c .loop-test .taken in
     (ltb-true (c .before .loop .i) (length (now (c .before .before .before .before .before .before .before .before .before .before .before .before .args .picks))) (and-left (ltb (c .before .loop .i) (length (now (c .before .before .before .before .before .before .before .before .before .before .before .before .args .picks)))) (ltb 0 (c .before .loop .k .live)) t), ltb-true 0 (c .before .loop .k .live) (and-right (ltb (c .before .loop .i) (length (now (c .before .before .before .before .before .before .before .before .before .before .before .before .args .picks)))) (ltb 0 (c .before .loop .k .live)) t))
 
 -- no slice is longer than the memory
@@ -97,10 +95,9 @@ loop-again c =
       c .before .before .before .before .before .before .before .before .before .before .before .before .before .before .before .before .before .untangle .kept .1 .1 .1 .1 .1 .0 ∙ c .before .before .before .before .before .before .before .before .before .before .before .before .before .before .before .before .before .before .before .before .before .before .before .before .before .before .before .before .before .before .before .loop .inv .3,
       λ r h.
           let b = c .before .before .before .before .before .before .before .before .before .before .before .before .before .before .before .before .before .before .before .before .before .before .before .before .before .before .before .before .before .before .before .loop .inv .4 r h in (
-            running-more cs i (l .0) (c .before .before .before .before .before .before .before .before .before .before .before .before .before .before .before .before .before .untangle .ensures .0 r (take i cs) (getD cs i 0) (b .0) (picked (b .0) (l .1) (c .before .before .before .before .before .before .before .before .before .before .before .before .before .before .before .before .before .before .before .before .before .before .before .before .before .before .random .ensures n _ _ (b .0 .holds) refl refl refl))),
-            subst (λ (xs : List ℕ). length (after n pt place xs r .log) ≡ i + 1) e (one-more (b .0) (getD cs i 0) (l .1) (b .1)),
+            running-more cs i (l .0) (c .before .before .before .before .before .before .before .before .before .before .before .before .before .before .before .before .before .untangle .ensures r (take i cs) (getD cs i 0) (b .0) (picked (b .0) (l .1) (c .before .before .before .before .before .before .before .before .before .before .before .before .before .before .before .before .before .before .before .before .before .before .before .before .before .before .random .ensures n _ _ (b .0 .holds) refl refl refl))),
+            subst (λ (xs : List ℕ). length (runW n pt place xs (from r) .log) ≡ i + 1) e (one-more (b .0) (getD cs i 0) (l .1) (b .1)),
           ),
-      beyond-then (c .before .before .before .before .before .before .before .before .before .before .before .before .before .before .before .before .before .untangle .ensures .1) (c .before .before .before .before .before .before .before .before .before .before .before .before .before .before .before .before .before .before .before .before .before .before .before .before .before .before .before .before .before .before .before .loop .inv .5),
       c .goes-on2 .ensures,
     )
 
@@ -132,10 +129,8 @@ returns : tie.Need-returns Inv-loop μ-loop
 returns c =
     let cs = now (c .before .before .before .before .before .before .before .before .before .before .before .before .args .picks) in
     let v = c .before .loop .inv in
-    let stop = sym (v .6) ∙ c .loop-test .left in (
-      λ r h. let b = v .4 r h in (ended cs (c .before .loop .i) (b .0) (v .0) stop, moves-made cs (c .before .loop .i) (b .0) (v .0) stop (b .1)),
-      v .5,
-    )
+    let stop = sym (v .5) ∙ c .loop-test .left in
+    λ r h. let b = v .4 r h in (ended cs (c .before .loop .i) (b .0) (v .0) stop, moves-made cs (c .before .loop .i) (b .0) (v .0) stop (b .1))
 
 pub run-spec : {M : Type 1} → statement M
 run-spec =

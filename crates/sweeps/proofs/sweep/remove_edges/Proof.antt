@@ -1,5 +1,5 @@
 -- `remove_edges` meets its contract. The loop's invariant: whatever store the buffers held, they now hold it without the records of the edges before i.
-use Prim.Native.Nat.{ℕ, _-_, _*_, _≤_, _<_}
+use Prim.Native.Nat.{ℕ, _-_, _≤_, _<_}
 use mathlib.Core.Path.{_≡_, ap, _∙_, subst, subst⁻¹, refl}
 use native.Mathlib.Omega.{arith}
 use lib.ListN.{length, take}
@@ -8,9 +8,8 @@ use Rattle.index_edge.specs.Number.{edgeOf}
 use Rattle.intersection_set.specs.Store.{Store, removes}
 use Rattle.intersection_set.specs.Pool.{lent, poolOf}
 use Rattle.intersection_set.specs.Within.{Proper}
-use Rattle.intersection_set.specs.Holds.{Holds, Beyond}
+use Rattle.intersection_set.specs.Holds.{Holds}
 use Rattle.intersection_set.proofs.Lengths.{AsLong, as-long-self}
-use Rattle.intersection_set.proofs.PastTheEnd.{beyond-self, beyond-then}
 use Rattle.sweeps.specs.Few.{fewOf}
 use Rattle.sweeps.proofs.Several.{few-length, next-removal, removes-of-all}
 use Rattle.sweeps.proofs.sweep.remove_edges.Statement.{statement}
@@ -24,7 +23,6 @@ Inv-loop n removed heads₀ ends links₀ dense₀ reverse₀ free₀ m k₀ i�
     let p₀ = poolOf b₀ k₀ in
     (i ≤ m) × AsLong b b₀
     × ((s : Store) → Holds n p₀ s → Holds n p (removes (take i (fewOf removed)) s))
-    × Beyond (n * (n - 1)) b b₀
 
 abbrev μ-loop : tie.MeasureT-loop
 μ-loop n removed heads₀ ends links₀ dense₀ reverse₀ free₀ m k₀ i₀ heads links dense reverse free k i = m - i
@@ -33,7 +31,7 @@ cast-m : tie.Need-cast-m Inv-loop μ-loop
 cast-m c = search needs
 
 loop-holds : tie.Need-loop-holds Inv-loop μ-loop
-loop-holds c = (omega arith, as-long-self _, λ s h. h, beyond-self _ _)
+loop-holds c = (omega arith, as-long-self _, λ s h. h)
 
 nth-requires : tie.Need-nth-requires Inv-loop μ-loop
 nth-requires c κs = (c .before .before .before .before .before .before .before .before .before .pre .0, c .loop-test .taken)
@@ -64,8 +62,7 @@ loop-again c =
     let d = c .before .before .before .before .before .before .before .before .before .before .remove-all .kept .1 .1 .1 in (
       omega (arith, c .before .before .before .before .before .before .before .before .before .before .before .before .before .before .before .before .before .loop-test .taken),
       record { heads = d .0 ∙ z .heads; ends = z .ends; links = d .1 .1 .0 ∙ z .links; dense = d .1 .1 .1 .0 ∙ z .dense; reverse = d .1 .1 .1 .1 .0 ∙ z .reverse; free = d .1 .1 .1 .1 .1 .0 ∙ z .free },
-      λ s h. subst (Holds (a .n) _) (next-removal (fewOf (a .removed)) (c .before .before .before .before .before .before .before .before .before .before .before .before .before .before .before .before .before .before .loop .i) s (below (c .before .before .before .before .before .before .before .before .before .before .before .before .before .before .before .before .before)) (c .before .before .before .before .before .before .before .before .before .before .before .before .before .before .before .before .nth .ensures)) (c .before .before .before .before .before .before .before .before .before .before .remove-all .ensures .0 (so-far (c .before .before .before .before .before .before .before .before .before .before .before .before .before .before .before .before .before .before) s) (c .before .before .before .before .before .before .before .before .before .before .before .before .before .before .before .before .before .before .loop .inv .2 s h)),
-      beyond-then (c .before .before .before .before .before .before .before .before .before .before .remove-all .ensures .1) (c .before .before .before .before .before .before .before .before .before .before .before .before .before .before .before .before .before .before .loop .inv .3),
+      λ s h. subst (Holds (a .n) _) (next-removal (fewOf (a .removed)) (c .before .before .before .before .before .before .before .before .before .before .before .before .before .before .before .before .before .before .loop .i) s (below (c .before .before .before .before .before .before .before .before .before .before .before .before .before .before .before .before .before)) (c .before .before .before .before .before .before .before .before .before .before .before .before .before .before .before .before .nth .ensures)) (c .before .before .before .before .before .before .before .before .before .before .remove-all .ensures (so-far (c .before .before .before .before .before .before .before .before .before .before .before .before .before .before .before .before .before .before) s) (c .before .before .before .before .before .before .before .before .before .before .before .before .before .before .before .before .before .before .loop .inv .2 s h)),
     )
 
 same-length : tie.Need-same-length Inv-loop μ-loop
@@ -87,7 +84,7 @@ returns : tie.Need-returns Inv-loop μ-loop
 returns c =
     let a = c .before .before .before .before .before .before .before .before .before .args in
     let e : c .before .loop .i ≡ length (fewOf (a .removed)) = omega (arith, c .loop-test .left, c .before .loop .inv .0, few-length (a .removed) (c .before .before .before .before .before .before .before .before .before .pre .0)) in
-    (λ s h. subst (Holds (a .n) _) (removes-of-all (fewOf (a .removed)) (c .before .loop .i) s e) (c .before .loop .inv .2 s h), c .before .loop .inv .3)
+    λ s h. subst (Holds (a .n) _) (removes-of-all (fewOf (a .removed)) (c .before .loop .i) s e) (c .before .loop .inv .2 s h)
 
 pub remove-edges-spec : {M : Type 1} → statement M
 remove-edges-spec =

@@ -1,5 +1,5 @@
 -- `sweep` meets its contract. The loop's invariant: whatever store the buffers held, they now hold it after a sweep over the edges before i.
-use Prim.Native.Nat.{_-_, _*_, _≤_, _<_}
+use Prim.Native.Nat.{_-_, _≤_, _<_}
 use mathlib.Core.Path.{_≡_, ap, _∙_, subst, subst⁻¹}
 use mathlib.Core.Bool.{true}
 use native.Mathlib.Omega.{arith}
@@ -14,9 +14,8 @@ use Rattle.polygon.specs.Edges.{edgeAt, edges}
 use Rattle.intersection_set.specs.Store.{Store}
 use Rattle.intersection_set.specs.Pool.{lent, poolOf}
 use Rattle.intersection_set.specs.Within.{Proper}
-use Rattle.intersection_set.specs.Holds.{Holds, MayPush, Beyond}
+use Rattle.intersection_set.specs.Holds.{Holds, MayPush}
 use Rattle.intersection_set.proofs.Lengths.{AsLong, as-long-self}
-use Rattle.intersection_set.proofs.PastTheEnd.{beyond-self, beyond-then}
 use Rattle.sweeps.specs.Sight.{Sees, Sight}
 use Rattle.sweeps.specs.Sweep.{firstOf, secondOf, wanted, sweepOver, Fits}
 use Rattle.sweeps.proofs.Sweeping.{two, sees-on, edge-is, sight, may-now, next-is, sweep-none, sweep-all}
@@ -31,7 +30,6 @@ Inv-loop moves n x y ring heads₀ ends₀ links₀ dense₀ reverse₀ free k�
     let p₀ = poolOf b₀ k₀ in
     (i ≤ n) × AsLong b b₀
     × ((s : Store) → Holds n p₀ s → Fits n (points x y) ring moves (edgeOf (a .edge)) s → Holds n p (sweepOver (points x y) moves (edgeOf (a .edge)) (take i (edges n ring)) s))
-    × Beyond (n * (n - 1)) b b₀
     × (i < n → Sees (points x y) (edgeOf (a .edge)) (at ring i) from)
 
 abbrev μ-loop : tie.MeasureT-loop
@@ -49,7 +47,7 @@ seen-first-requires c κs =
 loop-holds : tie.Need-loop-holds Inv-loop μ-loop
 loop-holds c =
     let s = c .before .before .before .before .before .before .before .before .before .args in
-    (omega arith, as-long-self _, λ u h f. subst (Holds (s .n) _) (sweep-none (points (now (s .x)) (now (s .y))) (s .moves) (edgeOf (c .before .segment-of .result .edge)) (edges (s .n) (now (s .ring))) u) h, beyond-self _ _, λ l. c .seen-first .ensures)
+    (omega arith, as-long-self _, λ u h f. subst (Holds (s .n) _) (sweep-none (points (now (s .x)) (now (s .y))) (s .moves) (edgeOf (c .before .segment-of .result .edge)) (edges (s .n) (now (s .ring))) u) h, λ l. c .seen-first .ensures)
 
 -- the edge is proper
 proper-a : (c : tie.At-loop Inv-loop μ-loop) → Proper (c .before .before .before .before .before .before .before .before .before .before .args .n) (edgeOf (c .before .before .segment-of .result .edge))
@@ -62,7 +60,7 @@ seen-after-requires c κs = let p = c .before .before .before .before .before .b
 sight-now : (c : tie.After-seen-after Inv-loop μ-loop) → let s = c .before .before .before .before .before .before .before .before .before .before .before .before .args in Sight (now (s .x)) (now (s .y)) (c .before .before .before .before .segment-of .result) (c .before .before .loop .from) (c .seen-after .result)
 sight-now c =
     let p = c .before .before .before .before .before .before .before .before .before .before .before .before .pre in
-    sight (p .0) (p .1) (p .2) (proper-a (c .before .before)) (c .before .loop-test .taken) (c .before .before .before .before .segment-of .ensures .1) (c .before .before .loop .inv .4 (c .before .loop-test .taken)) (c .seen-after .ensures)
+    sight (p .0) (p .1) (p .2) (proper-a (c .before .before)) (c .before .loop-test .taken) (c .before .before .before .before .segment-of .ensures .1) (c .before .before .loop .inv .3 (c .before .loop-test .taken)) (c .seen-after .ensures)
 
 candidate-between-requires : tie.Need-candidate-between-requires Inv-loop μ-loop
 candidate-between-requires c κs = let s = c .before .before .before .before .before .before .before .before .before .before .before .before .args in (now (s .x), now (s .y), sight-now c)
@@ -77,7 +75,7 @@ pair-is c =
     let s = c .before .before .before .before .before .before .before .before .before .before .before .before .before .args in
     let e = edgeOf (c .before .before .before .before .before .segment-of .result .edge) in
     let g = c .candidate-between .ensures in
-    let z = edge-is (s .n) (now (s .ring)) (c .before .before .before .loop .i) (c .before .before .before .loop .inv .4 (c .before .before .loop-test .taken) .number) (c .before .seen-after .ensures .number) in
+    let z = edge-is (s .n) (now (s .ring)) (c .before .before .before .loop .i) (c .before .before .before .loop .inv .3 (c .before .before .loop-test .taken) .number) (c .before .seen-after .ensures .number) in
     (g .0 ∙ ap (λ (f : Edge). firstOf (s .moves) e f) z, g .1 ∙ ap (λ (f : Edge). secondOf (s .moves) e f) z, g .2 (now (s .x)) (now (s .y)) (sight-now (c .before)) ∙ ap (λ (f : Edge). wanted (points (now (s .x)) (now (s .y))) (s .moves) e f) z)
 
 -- this turn's push is allowed
@@ -113,8 +111,7 @@ loop-again c =
       λ s h f.
           subst (Holds (a .n) _)
           (next-is (a .moves) (edgeOf (c .before .before .before .before .before .before .before .before .before .before .before .before .before .before .before .before .before .before .before .before .before .before .before .segment-of .result .edge)) (c .before .before .before .before .before .before .before .before .before .before .before .before .before .before .before .before .before .before .before .before .before .loop .i) s (p .1) (two (p .2)) (c .before .before .before .before .before .before .before .before .before .before .before .before .before .before .before .before .before .before .before .before .loop-test .taken) (proper-a (c .before .before .before .before .before .before .before .before .before .before .before .before .before .before .before .before .before .before .before .before .before)) f (e .0) (e .1) (e .2))
-          (c .before .before .before .before .before .before .before .before .before .before .push-if .ensures .0 (so-far (c .before .before .before .before .before .before .before .before .before .before .before .before .before .before .before .before .before .before .before .before .before) s) (c .before .before .before .before .before .before .before .before .before .before .before .before .before .before .before .before .before .before .before .before .before .loop .inv .2 s h f) (may (c .before .before .before .before .before .before .before .before .before .before .before .before .before .before .before .before .before .before) s f)),
-      beyond-then (c .before .before .before .before .before .before .before .before .before .before .push-if .ensures .1) (c .before .before .before .before .before .before .before .before .before .before .before .before .before .before .before .before .before .before .before .before .before .loop .inv .3),
+          (c .before .before .before .before .before .before .before .before .before .before .push-if .ensures (so-far (c .before .before .before .before .before .before .before .before .before .before .before .before .before .before .before .before .before .before .before .before .before) s) (c .before .before .before .before .before .before .before .before .before .before .before .before .before .before .before .before .before .before .before .before .before .loop .inv .2 s h f) (may (c .before .before .before .before .before .before .before .before .before .before .before .before .before .before .before .before .before .before) s f)),
       λ l. sees-on (a .n) (now (a .ring)) (c .before .before .before .before .before .before .before .before .before .before .before .before .before .before .before .before .before .before .before .before .before .loop .i) (c .before .before .before .before .before .before .before .before .before .before .before .before .before .before .before .before .before .before .before .seen-after .ensures) l,
     )
 
@@ -138,13 +135,11 @@ returns c =
     let s = c .before .before .before .before .before .before .before .before .before .before .before .args in
     let pt = points (now (s .x)) (now (s .y)) in
     let e : c .before .loop .i ≡ s .n = omega (arith, c .loop-test .left, c .before .loop .inv .0) in
-    let z = ap edgeOf (c .before .before .before .segment-of .ensures .0) in (
-      λ u h f.
-          subst (Holds (s .n) _)
-          (sweep-all (s .n) pt (s .moves) (edgeOf (c .before .before .before .segment-of .result .edge)) (now (s .ring)) (c .before .loop .i) u e ∙ ap (λ (g : Edge). sweepOver pt (s .moves) g (edges (s .n) (now (s .ring))) u) z)
-          (c .before .loop .inv .2 u h (subst⁻¹ (λ (g : Edge). Fits (s .n) pt (now (s .ring)) (s .moves) g u) z f)),
-      c .before .loop .inv .3,
-    )
+    let z = ap edgeOf (c .before .before .before .segment-of .ensures .0) in
+    λ u h f.
+    subst (Holds (s .n) _)
+    (sweep-all (s .n) pt (s .moves) (edgeOf (c .before .before .before .segment-of .result .edge)) (now (s .ring)) (c .before .loop .i) u e ∙ ap (λ (g : Edge). sweepOver pt (s .moves) g (edges (s .n) (now (s .ring))) u) z)
+    (c .before .loop .inv .2 u h (subst⁻¹ (λ (g : Edge). Fits (s .n) pt (now (s .ring)) (s .moves) g u) z f))
 
 pub sweep-spec : {M : Type 1} → statement M
 sweep-spec =

@@ -1,5 +1,5 @@
 -- `sweeps` meets its contract. The loop's invariant: whatever store the buffers held, they now hold it after the sweeps for the edges before i.
-use Prim.Native.Nat.{ℕ, _-_, _*_, _≤_, _<_}
+use Prim.Native.Nat.{ℕ, _-_, _≤_, _<_}
 use mathlib.Core.Path.{_≡_, ap, _∙_, subst, subst⁻¹}
 use native.Mathlib.Omega.{arith}
 use lib.ListN.{length, take, length-map}
@@ -10,9 +10,8 @@ use Rattle.polygon.specs.Edges.{edges}
 use Rattle.intersection_set.specs.Store.{Store}
 use Rattle.intersection_set.specs.Pool.{lent, poolOf}
 use Rattle.intersection_set.specs.Within.{Proper}
-use Rattle.intersection_set.specs.Holds.{Holds, Beyond}
+use Rattle.intersection_set.specs.Holds.{Holds}
 use Rattle.intersection_set.proofs.Lengths.{AsLong, as-long-self}
-use Rattle.intersection_set.proofs.PastTheEnd.{beyond-self, beyond-then}
 use Rattle.sweeps.specs.Few.{source, sweepsOver, FitAll}
 use Rattle.sweeps.proofs.Several.{sweeps-none, sweeps-all, next-sweep, fits-now}
 use Rattle.sweeps.proofs.sweep.sweeps.Statement.{statement}
@@ -26,7 +25,6 @@ Inv-loop moves n inserted x y ring heads₀ ends₀ links₀ dense₀ reverse₀
     let p₀ = poolOf b₀ k₀ in
     (i ≤ m) × AsLong b b₀
     × ((s : Store) → Holds n p₀ s → FitAll n (points x y) ring moves (source moves n ring inserted) s → Holds n p (sweepsOver (points x y) moves (edges n ring) (take i (source moves n ring inserted)) s))
-    × Beyond (n * (n - 1)) b b₀
 
 abbrev μ-loop : tie.MeasureT-loop
 μ-loop moves n inserted x y ring heads₀ ends₀ links₀ dense₀ reverse₀ free m k₀ i₀ heads ends links dense reverse k i = m - i
@@ -37,7 +35,7 @@ source-len-requires c κs = c .before .before .before .before .before .before .b
 loop-holds : tie.Need-loop-holds Inv-loop μ-loop
 loop-holds c =
     let a = c .before .before .before .before .before .before .before .before .args in
-    (omega arith, as-long-self _, λ s h f. subst (Holds (a .n) _) (sweeps-none (points (now (a .x)) (now (a .y))) (a .moves) (edges (a .n) (now (a .ring))) (source (a .moves) (a .n) (now (a .ring)) (a .inserted)) s) h, beyond-self _ _)
+    (omega arith, as-long-self _, λ s h f. subst (Holds (a .n) _) (sweeps-none (points (now (a .x)) (now (a .y))) (a .moves) (edges (a .n) (now (a .ring))) (source (a .moves) (a .n) (now (a .ring)) (a .inserted)) s) h)
 
 -- the loop's bound is the number of edges
 below : (c : tie.In-loop Inv-loop μ-loop) → let a = c .before .before .before .before .before .before .before .before .before .before .args in c .before .loop .i < length (source (a .moves) (a .n) (now (a .ring)) (a .inserted))
@@ -82,8 +80,7 @@ loop-again c =
       λ s h f.
           subst (Holds (a .n) _)
           (next-sweep (points (now (a .x)) (now (a .y))) (a .n) (now (a .ring)) (a .moves) l (c .before .before .before .before .before .before .before .before .before .before .before .before .before .before .before .before .before .before .loop .i) s (below (c .before .before .before .before .before .before .before .before .before .before .before .before .before .before .before .before .before)) e)
-          (c .before .before .before .before .before .before .before .before .before .before .sweep .ensures .0 (so-far (c .before .before .before .before .before .before .before .before .before .before .before .before .before .before .before .before .before .before) s) (c .before .before .before .before .before .before .before .before .before .before .before .before .before .before .before .before .before .before .loop .inv .2 s h f) (fits-now (points (now (a .x)) (now (a .y))) (a .n) (now (a .ring)) (a .moves) l (c .before .before .before .before .before .before .before .before .before .before .before .before .before .before .before .before .before .before .loop .i) s (below (c .before .before .before .before .before .before .before .before .before .before .before .before .before .before .before .before .before)) e f)),
-      beyond-then (c .before .before .before .before .before .before .before .before .before .before .sweep .ensures .1) (c .before .before .before .before .before .before .before .before .before .before .before .before .before .before .before .before .before .before .loop .inv .3),
+          (c .before .before .before .before .before .before .before .before .before .before .sweep .ensures (so-far (c .before .before .before .before .before .before .before .before .before .before .before .before .before .before .before .before .before .before) s) (c .before .before .before .before .before .before .before .before .before .before .before .before .before .before .before .before .before .before .loop .inv .2 s h f) (fits-now (points (now (a .x)) (now (a .y))) (a .n) (now (a .ring)) (a .moves) l (c .before .before .before .before .before .before .before .before .before .before .before .before .before .before .before .before .before .before .loop .i) s (below (c .before .before .before .before .before .before .before .before .before .before .before .before .before .before .before .before .before)) e f)),
     )
 
 same-length : tie.Need-same-length Inv-loop μ-loop
@@ -105,10 +102,8 @@ returns : tie.Need-returns Inv-loop μ-loop
 returns c =
     let a = c .before .before .before .before .before .before .before .before .before .before .args in
     let l = source (a .moves) (a .n) (now (a .ring)) (a .inserted) in
-    let e : c .before .loop .i ≡ length l = omega (arith, c .loop-test .left, c .before .loop .inv .0, c .before .before .source-len .ensures (now (a .ring))) in (
-      λ s h f. subst (Holds (a .n) _) (sweeps-all (points (now (a .x)) (now (a .y))) (a .moves) (edges (a .n) (now (a .ring))) l (c .before .loop .i) s e) (c .before .loop .inv .2 s h f),
-      c .before .loop .inv .3,
-    )
+    let e : c .before .loop .i ≡ length l = omega (arith, c .loop-test .left, c .before .loop .inv .0, c .before .before .source-len .ensures (now (a .ring))) in
+    λ s h f. subst (Holds (a .n) _) (sweeps-all (points (now (a .x)) (now (a .y))) (a .moves) (edges (a .n) (now (a .ring))) l (c .before .loop .i) s e) (c .before .loop .inv .2 s h f)
 
 pub sweeps-spec : {M : Type 1} → statement M
 sweeps-spec =

@@ -13,7 +13,6 @@ use Rattle.polygon.specs.Edges.{edges, direct}
 use Rattle.polygon.specs.Change.{Plan, cut, lay, turned, Fits}
 use Rattle.intersection_set.specs.Store.{Store, removes}
 use Rattle.intersection_set.specs.Holds.{Holds}
-use Rattle.intersection_set.proofs.PastTheEnd.{beyond-then}
 use Rattle.machine.specs.Search.{planAt}
 use Rattle.machine.specs.Machine.{scans}
 use Rattle.moves.specs.Plan.{planOf}
@@ -91,7 +90,7 @@ sweeps-requires c κs =
       the-board (p .3) (p .4),
       c .before .before .before .before .before .before .before .before .before .before .before .before .before .before .before .before .before .before .before .before .before .before .before .before .before .before .before .before .before .before .before .inserted-edges .ensures .1,
       subst⁻¹ (AllProper n) el (lays-proper (p .3) (p .4)),
-      (removes (fewOf (c .before .before .before .before .before .before .before .before .before .before .before .before .before .before .before .before .before .before .before .before .before .before .before .before .before .before .before .before .before .before .before .before .before .removed-edges .result)) store, c .before .before .before .before .before .before .before .before .before .before .before .before .before .before .before .before .before .before .before .before .before .before .before .before .remove-edges .ensures .0 store (p .3 .holds), room-as (p .3) (p .4) et el ec),
+      (removes (fewOf (c .before .before .before .before .before .before .before .before .before .before .before .before .before .before .before .before .before .before .before .before .before .before .before .before .before .before .before .before .before .before .before .before .before .removed-edges .result)) store, c .before .before .before .before .before .before .before .before .before .before .before .before .before .before .before .before .before .before .before .before .before .before .before .before .remove-edges .ensures store (p .3 .holds), room-as (p .3) (p .4) et el ec),
     )
 
 same-length : tie.Need-same-length
@@ -125,13 +124,11 @@ returns c =
     let et = is-turned (c .before .before .before .before .before .before .before .before .before .before .before .before .before .before .before .before .before .before .before .before .before .before) in
     let el = is-lay (c .before .before .before .before .before .before .before .before .before .before .before .before .before .before .before .before .before .before .before .before .before .before .before .before .before .before .before .before .before .before .before .before .before .before .before .before .before .before .before .before .before .before) in
     let ec = is-cut (c .before .before .before .before .before .before .before .before .before .before .before .before .before .before .before .before .before .before .before .before .before .before .before .before .before .before .before .before .before .before .before .before .before .before .before .before .before .before .before .before .before .before .before .before) in
-    let q = s .pre .1 in (
-      λ r cs pick run pk.
-          let store = stateAfter n (points (now (s .args .x)) (now (s .args .y))) r cs .store in
-          next-running run pk et el ec (c .before .before .before .before .before .before .before .before .before .before .before .before .before .before .before .before .before .before .before .before .before .before .turn-ring .ensures .1 ∙ ap (λ k. indexOf k (c .before .before .before .before .before .before .before .before .before .before .before .before .before .before .before .before .before .before .before .before .before .before .turn-ring .last .0)) (the-ring (q .3) (q .4) .len))
-          (c .before .before .before .before .before .before .before .before .before .before .sweeps .ensures .0 (removes (fewOf (c .before .before .before .before .before .before .before .before .before .before .before .before .before .before .before .before .before .before .before .before .before .before .before .before .before .before .before .before .before .before .before .before .before .before .before .before .before .before .before .before .before .before .before .before .removed-edges .result)) store) (c .before .before .before .before .before .before .before .before .before .before .before .before .before .before .before .before .before .before .before .before .before .before .before .before .before .before .before .before .before .before .before .before .before .before .before .remove-edges .ensures .0 store (run .holds)) (room-as run pk et el ec)),
-      beyond-then (c .before .before .before .before .before .before .before .before .before .before .sweeps .ensures .1) (c .before .before .before .before .before .before .before .before .before .before .before .before .before .before .before .before .before .before .before .before .before .before .before .before .before .before .before .before .before .before .before .before .before .before .before .remove-edges .ensures .1),
-    )
+    let q = s .pre .1 in
+    λ t cs pick run pk.
+    let store = stateAfter n (points (now (s .args .x)) (now (s .args .y))) t cs .store in
+    next-running run pk et el ec (c .before .before .before .before .before .before .before .before .before .before .before .before .before .before .before .before .before .before .before .before .before .before .turn-ring .ensures .1 ∙ ap (λ k. indexOf k (c .before .before .before .before .before .before .before .before .before .before .before .before .before .before .before .before .before .before .before .before .before .before .turn-ring .last .0)) (the-ring (q .3) (q .4) .len))
+    (c .before .before .before .before .before .before .before .before .before .before .sweeps .ensures (removes (fewOf (c .before .before .before .before .before .before .before .before .before .before .before .before .before .before .before .before .before .before .before .before .before .before .before .before .before .before .before .before .before .before .before .before .before .before .before .before .before .before .before .before .before .before .before .before .removed-edges .result)) store) (c .before .before .before .before .before .before .before .before .before .before .before .before .before .before .before .before .before .before .before .before .before .before .before .before .before .before .before .before .before .before .before .before .before .before .before .remove-edges .ensures store (run .holds)) (room-as run pk et el ec))
 
 pub untangle-spec : {M : Type 1} → statement M
 untangle-spec =
