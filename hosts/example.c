@@ -23,8 +23,20 @@ static void show(const char *title, size_t n, tour_answer a) {
     printf("\n");
     for (size_t i = 0; i < a.left; i++) {
         uint64_t w = words[0][work[1][i]];
-        printf("  record %u-%u %u-%u\n", TOUR_POINT(w, 0), TOUR_POINT(w, 1), TOUR_POINT(w, 2), TOUR_POINT(w, 3));
+        printf("  record %u-%u %u-%u\n", TOUR_MIN0(w), TOUR_MAX0(w), TOUR_MIN1(w), TOUR_MAX1(w));
     }
+}
+
+/* The edges that meet the edge of a and b by the records left, newest first. */
+static void show_list(size_t n, unsigned a, unsigned b) {
+    printf("  %u-%u meets", a, b);
+    for (unsigned s = work[0][b + n * a]; s != TOUR_NONE;) {
+        uint64_t w = words[0][s], l = words[1][s];
+        int first = TOUR_MIN0(w) == a && TOUR_MAX0(w) == b;
+        printf(" %u-%u", first ? TOUR_MIN1(w) : TOUR_MIN0(w), first ? TOUR_MAX1(w) : TOUR_MAX0(w));
+        s = first ? TOUR_NEXT0(l) : TOUR_NEXT1(l);
+    }
+    printf("\n");
 }
 
 static void put_word(uint8_t *job, size_t *at, uint32_t w) {
@@ -61,6 +73,9 @@ int main(void) {
     show("equal points", read.points, call(0, read.points, x, y, picks, read.picks, PAIRS));
     show("two points", 2, call(0, 2, (int32_t[N]){0, 1}, (int32_t[N]){0}, picks, read.picks, PAIRS));
     show("one line", 3, call(0, 3, (int32_t[N]){0, 1, 2}, (int32_t[N]){0, 1, 2}, picks, read.picks, PAIRS));
+    static const int32_t row_x[N] = {12, 1, 3, 0, 10, 2, 6}, row_y[N] = {0, 0, -5, 0, 0, 0, 5};
+    show("a row, one pick", 7, call(0, 7, row_x, row_y, (uint32_t[]){0}, 1, PAIRS));
+    show_list(7, 1, 4);
     printf("past the ring: %u\n", ring[N]);
 
     printf("meets: %u %u %u %u\n", (unsigned)tour_meets(0, 0, 4, 0, 2, 0, 2, 3), (unsigned)tour_meets(0, 0, 4, 0, 4, 0, 2, 0),

@@ -62,6 +62,11 @@ fn main() {
     show("two points", 2, a, &lent);
     let a = tour::two_opt_moves(3, &[0, 1, 2], &[0, 1, 2], picks, &mut lent);
     show("one line", 3, a, &lent);
+    let row = ([12, 1, 3, 0, 10, 2, 6], [0, 0, -5, 0, 0, 0, 5]);
+    let a = tour::two_opt_moves(7, &row.0, &row.1, &[0], &mut lent);
+    show("a row, one pick", 7, a, &lent);
+    let meeting: Vec<String> = lent.meeting(7, [1, 4]).map(|[a, b]| format!(" {a}-{b}")).collect();
+    println!("  1-4 meets{}", meeting.concat());
     println!("past the ring: {}", lent.ring[8]);
 
     let met = [

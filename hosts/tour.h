@@ -34,9 +34,23 @@ typedef struct {
  * and never touch an element past those. picks may have any length. Work buffers may hold anything at first; ring too, but in
  * tour_resolve_self_intersections, which starts from it. x, y and picks are only read.
  * Code 0: ring[0 .. n-1] is the loop, counter-clockwise, and index is its inverse.
- * Code 8: for i < left the slot s = dense[i] has the record of two edges, whose four point numbers are the four 16-bit parts of
- * ends[s], the lowest first: TOUR_POINT(ends[s], 0) - TOUR_POINT(ends[s], 1) and TOUR_POINT(ends[s], 2) - TOUR_POINT(ends[s], 3). */
-#define TOUR_POINT(word, k) ((uint16_t)((word) >> 16 * (k)))
+ * Code 8: ring and index are those after the last move, and the records left are these. The slots dense[0 .. left-1] are live. A record is two
+ * words at its slot, each of four 16-bit parts, the lowest first:
+ *    ends[s]     min0, max0, min1, max1    the points of its two edges, the smaller edge first, of an edge the smaller point
+ *    links[s]    next0, prev0, next1, prev1    along the list of its first edge, and of its second: the slot of the next older record and of the next newer
+ *                one that names that edge, TOUR_NONE for none
+ * heads[b + n * a] is the slot of the newest record that names the edge of a and b, a < b; TOUR_NONE for none.
+ * reverse[s] is where a live slot stands in dense. Entries of other slots mean nothing. */
+#define TOUR_NONE 65535
+#define TOUR_PART(word, k) ((uint16_t)((word) >> 16 * (k)))
+#define TOUR_MIN0(ends) TOUR_PART(ends, 0)
+#define TOUR_MAX0(ends) TOUR_PART(ends, 1)
+#define TOUR_MIN1(ends) TOUR_PART(ends, 2)
+#define TOUR_MAX1(ends) TOUR_PART(ends, 3)
+#define TOUR_NEXT0(links) TOUR_PART(links, 0)
+#define TOUR_PREV0(links) TOUR_PART(links, 1)
+#define TOUR_NEXT1(links) TOUR_PART(links, 2)
+#define TOUR_PREV1(links) TOUR_PART(links, 3)
 
 #define TOUR_WORK \
     size_t n, const int32_t *x, size_t x_len, const int32_t *y, size_t y_len, const uint32_t *picks, size_t picks_len, \

@@ -68,8 +68,25 @@ impl Buffers {
 
     /// The edges of the first records in dense order; after `Stopped { left, .. }` the first `left` are those left.
     pub fn records(&self, left: usize) -> impl Iterator<Item = [u16; 4]> + '_ {
-        self.dense.iter().take(left).map(|&s| self.ends[s as usize]).map(|w| std::array::from_fn(|k| (w >> (16 * k)) as u16))
+        self.dense.iter().take(left).map(|&s| parts(self.ends[s as usize]))
     }
+
+    /// After `Stopped` of n points: the edges that meet the edge of a and b, a < b, by the records left, newest first.
+    pub fn meeting(&self, n: usize, [a, b]: [u16; 2]) -> impl Iterator<Item = [u16; 2]> + '_ {
+        let mut slot = self.heads[b as usize + n * a as usize];
+        std::iter::from_fn(move || {
+            let [min0, max0, min1, max1] = parts(*self.ends.get(slot as usize)?);
+            let [next0, _, next1, _] = parts(self.links[slot as usize]);
+            let (other, next) = if [min0, max0] == [a, b] { ([min1, max1], next0) } else { ([min0, max0], next1) };
+            slot = next;
+            Some(other)
+        })
+    }
+}
+
+/// The four parts of a record's word, the lowest first.
+fn parts(word: u64) -> [u16; 4] {
+    std::array::from_fn(|k| (word >> (16 * k)) as u16)
 }
 
 macro_rules! call {

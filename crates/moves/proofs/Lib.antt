@@ -1,5 +1,4 @@
 pub mod RingPositions
-pub mod Least
 pub mod RingWalk
 pub mod Carried
 pub mod RunSteps

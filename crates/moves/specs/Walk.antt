@@ -1,14 +1,11 @@
 -- A ring over lent points, and positions on it.
 use mathlib.Core.Path.{_≡_}
-use mathlib.Core.Bool.{cond}
 use mathlib.Core.List.{List}
 use Prim.Native.Nat.{ℕ, _<_}
 use lib.IntN.{ℤ}
-use Rattle.geometry.specs.Plane.{Point, ltP}
 use Rattle.geometry.specs.Lent.{Lent}
 use Rattle.polygon.specs.Ring.{IsRing}
 use Rattle.polygon.specs.declared.position.Position.{Position}
-use Rattle.machine.specs.Board.{ptAt}
 
 -- n points are lent, within the limits, and r is a ring of them
 pub record RingOver (n : ℕ) (x y : List ℤ) (r : List ℕ) : Type 0 where
@@ -20,7 +17,3 @@ pub record Both (p q : Position) : Type 0 where
   pub same : q .size ≡ p .size
   pub first : p .id .0 < p .size
   pub second : q .id .0 < p .size
-
--- of two positions, that of the lesser point, the second if neither is
-abbrev pub lesserAt : (ℕ → Point) → List ℕ → ℕ → ℕ → ℕ
-lesserAt pt r i j = cond (ltP (ptAt pt r i) (ptAt pt r j)) i j

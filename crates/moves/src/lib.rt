@@ -1,5 +1,4 @@
-// Which move a recorded crossing calls for, and the checks of a start: what of two_opt.rs reads the points and the ring, and not the records.
-pub mod checks;
+// Which move a recorded crossing calls for: what of two_opt.rs reads the points and the ring, and not the records.
 pub mod extremes;
 pub mod plan;
 pub mod search;

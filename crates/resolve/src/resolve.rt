@@ -14,8 +14,8 @@ ghost use Rattle.untangle.specs.Running.{Running};
 ghost use Rattle.resolve.specs.Ended.{Ended, Counted};
 use super::run::begin;
 use super::run::run;
+use checks::start::is_clockwise;
 use intersection_set::utils::Counts;
-use moves::checks::is_clockwise;
 use polygon::polygon::turn_round;
 
 // With no record left the loop is reversed whole if its least point turns clockwise.

@@ -9,7 +9,7 @@ use lib.ListN.{length}
 use borrow.Author.Tests.{le-ltb}
 use Rattle.algebra.specs.Size.{mul-bound}
 use Rattle.geometry.specs.Lent.{Lent}
-use Rattle.two_opt.specs.Checks.{short}
+use Rattle.checks.specs.Checks.{short}
 
 -- check 2 with 48 places for the ring and its index, and 48×47 in each of the six record buffers
 abbrev pub cramped : ℕ → List ℤ → List ℤ → Bool

@@ -19,10 +19,10 @@ use Rattle.machine.specs.Answer.{Answer, refused, unfinished, delivered, finish
 use Rattle.machine.proofs.Accepted.{Accepted, accepted}
 use Rattle.untangle.specs.Running.{stateAfter}
 use Rattle.resolve.specs.Ended.{Counted, lastRing, Ended}
-use Rattle.two_opt.specs.Checks.{anyBelow, short}
+use Rattle.checks.specs.Checks.{anyBelow, short}
 use Rattle.two_opt.specs.Entry.{answerOf, Loan, loan, each, front, past, ringSized, recordSized, shortOf, Holding, Ran, Entry}
 use Rattle.two_opt.specs.declared.entries.Answer.{Answer as Answered}
-use Rattle.two_opt.proofs.Checking.{from-start}
+use Rattle.checks.proofs.Checking.{from-start}
 
 -- ---- a call that is refused
 pub refused-entry : (n : ℕ) (x y : List ℤ) (r cs : List ℕ) (l : Loan) {k : ℕ} → k ≡ refusal n (points x y) (shortOf n x y l) r → 0 < k → Entry n x y r cs l l (refused k)

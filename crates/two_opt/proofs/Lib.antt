@@ -1,3 +1,2 @@
 pub mod Answering
-pub mod Checking
 pub mod Demand3Entries

@@ -11,7 +11,7 @@ use Rattle.intersection_set.specs.Pool.{Buffers, lent}
 use Rattle.machine.specs.Machine.{begin, after, place}
 use Rattle.machine.specs.Answer.{Answer, refused, unfinished, delivered, answer, refusal, call}
 use Rattle.resolve.specs.Ended.{Ended}
-use Rattle.two_opt.specs.Checks.{short}
+use Rattle.checks.specs.Checks.{short}
 use Rattle.two_opt.specs.declared.entries.Answer.{Answer as Answered}
 use Rattle.two_opt.specs.declared.entries.Answer.the-variants.{Delivered, Stopped, Refused}
 

@@ -1,2 +1,1 @@
-pub mod checks;
 pub mod entries;

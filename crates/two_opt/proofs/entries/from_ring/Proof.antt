@@ -13,7 +13,7 @@ use Rattle.intersection_set.specs.Pool.{lent}
 use Rattle.intersection_set.specs.Within.{Room}
 use Rattle.machine.specs.Answer.{refusal}
 use Rattle.two_opt.specs.Entry.{Loan, loan, recordSized}
-use Rattle.two_opt.proofs.Checking.{from-start}
+use Rattle.checks.proofs.Checking.{from-start}
 use Rattle.two_opt.proofs.Answering.{long-ring, long-records, part-length, exact-room, same-whole, ran-parts}
 use Rattle.two_opt.proofs.entries.from_ring.Statement.{statement}
 use Rattle.two_opt.proofs.entries.from_ring.Tie as tie

@@ -15,7 +15,7 @@ use Rattle.polygon.proofs.Index.{first-index}
 use Rattle.intersection_set.specs.Pool.{lent}
 use Rattle.machine.specs.Answer.{refusal}
 use Rattle.two_opt.specs.Entry.{Loan, loan, each, past, shortOf}
-use Rattle.two_opt.proofs.Checking.{same-refusal}
+use Rattle.checks.proofs.Checking.{same-refusal}
 use Rattle.two_opt.proofs.Answering.{refused-entry, long-ring, part-length, take-part, past-part, same-whole, accepts, runs, run-lent, same-short, ran-entry}
 use Rattle.two_opt.proofs.entries.two_opt_moves.Statement.{statement}
 use Rattle.two_opt.proofs.entries.two_opt_moves.Tie as tie
