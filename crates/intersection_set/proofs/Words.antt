@@ -1,7 +1,7 @@
 -- The parts of a word that is packed, and what a store of one word does to the lists of parts.
 use mathlib.Core.Path.{_≡_, refl, sym, ap, subst, _∙_}
 use mathlib.Core.Logic.{_≢_}
-use mathlib.Core.Bool.{Bool, true, false, cond}
+use mathlib.Core.Bool.{Bool, true, false, not, cond}
 use mathlib.Core.List.{List, [], _∷_, map}
 use Prim.Native.Nat.{ℕ, zero, suc, _+_, _-_, _*_, _/_, _%_, _<_, _≤_}
 use native.Mathlib.Omega.{arith}
@@ -11,8 +11,8 @@ use lib.Dec.{eqb}
 use borrow.Author.Tests.{ne-eqb}
 use Rattle.index_edge.specs.Edge.{Edge, eqE}
 use Rattle.intersection_set.specs.Lists.{none}
-use Rattle.intersection_set.specs.Words.{packed, part0, part1, part2, part3, withNext, withPrev}
-use Rattle.intersection_set.specs.Pool.{Ends, ends, noEnds, Pair, pair, noPair, pairOf, edgesOf, nextsIn, prevsIn, end0, putEnd, setEnd, putEdges, putEnds, clearEnds}
+use Rattle.intersection_set.specs.Words.{packed, part0, part1, part2, part3, unitOf, withLink}
+use Rattle.intersection_set.specs.Pool.{Ends, ends, noEnds, Pair, pair, noPair, pairOf, edgesOf, linksIn, nextsIn, prevsIn, end0, putEnd, setEnd, putEdges, putEnds, clearEnds}
 
 pub part0-small : (w : ℕ) → part0 w < 65536
 part0-small w = omega arith
@@ -53,26 +53,21 @@ pub record Anew (u w v : ℕ) : Type 0 where
   pub whole : w - w / u % 65536 * u + v * u < 18446744073709551616
 
 module _ (w v : ℕ) (hw : w < 18446744073709551616) (hv : v < 65536) where
-  pub anew-next : (first : Bool) → Anew (cond first 1 4294967296) w v
-  anew-next true = record { some = omega arith; part = omega arith; fits = omega arith; whole = omega arith }
-  anew-next false = record { some = omega arith; part = omega arith; fits = omega arith; whole = omega arith }
+  pub may-anew : (back first : Bool) → Anew (unitOf back first) w v
+  may-anew true true = record { some = omega arith; part = omega arith; fits = omega arith; whole = omega arith }
+  may-anew true false = record { some = omega arith; part = omega arith; fits = omega arith; whole = omega arith }
+  may-anew false true = record { some = omega arith; part = omega arith; fits = omega arith; whole = omega arith }
+  may-anew false false = record { some = omega arith; part = omega arith; fits = omega arith; whole = omega arith }
 
-  pub anew-prev : (first : Bool) → Anew (cond first 65536 281474976710656) w v
-  anew-prev true = record { some = omega arith; part = omega arith; fits = omega arith; whole = omega arith }
-  anew-prev false = record { some = omega arith; part = omega arith; fits = omega arith; whole = omega arith }
-
-  pub next-anew : (first : Bool) → w - w / cond first 1 4294967296 % 65536 * cond first 1 4294967296 + v * cond first 1 4294967296 ≡ withNext first w v
-  unfolding withNext
-  next-anew true = omega arith
-  next-anew false = omega arith
-
-  pub prev-anew : (first : Bool) → w - w / cond first 65536 281474976710656 % 65536 * cond first 65536 281474976710656 + v * cond first 65536 281474976710656 ≡ withPrev first w v
-  unfolding withPrev
-  prev-anew true = omega arith
-  prev-anew false =
+  pub is-anew : (back first : Bool) → w - w / unitOf back first % 65536 * unitOf back first + v * unitOf back first ≡ withLink back first w v
+  unfolding withLink
+  is-anew true true = omega arith
+  is-anew true false =
       let q : w / 281474976710656 < 65536 = omega arith in
       let e : w / 281474976710656 % 65536 ≡ w / 281474976710656 = omega (arith, q) in
       omega (arith, e, packed-parts w)
+  is-anew false true = omega arith
+  is-anew false false = omega arith
 
 -- ---- what is read of a word
 module _ (l : List ℕ) (i : ℕ) where
@@ -83,13 +78,10 @@ module _ (l : List ℕ) (i : ℕ) where
   unfolding pairOf
   pair-reads = List·getD-map pairOf l i 0
 
-  pub nexts-read : getD (map nextsIn l) i noEnds ≡ nextsIn (getD l i 0)
-  unfolding nextsIn
-  nexts-read = List·getD-map nextsIn l i 0
-
-  pub prevs-read : getD (map prevsIn l) i noEnds ≡ prevsIn (getD l i 0)
-  unfolding prevsIn
-  prevs-read = List·getD-map prevsIn l i 0
+  pub links-read : (back : Bool) → getD (map (linksIn back) l) i noEnds ≡ linksIn back (getD l i 0)
+  unfolding linksIn
+  links-read true = List·getD-map (linksIn true) l i 0
+  links-read false = List·getD-map (linksIn false) l i 0
 
 pub as-many : {A : Type 0} (f : ℕ → A) (l k : List ℕ) → length (map f l) ≡ length (map f k) → length l ≡ length k
 as-many f l k q = sym (length-map l f) ∙ q ∙ length-map k f
@@ -107,50 +99,37 @@ module _ (l : List ℕ) (i a b c d : ℕ) (ha : a < 65536) (hb : b < 65536) (hc 
   edges-stored = stored pairOf l i (packed a b c d) _ (λ j. pair (record { lo = part0-of a b c d ha hb hc j; hi = part1-of a b c d ha hb hc j }) (record { lo = part2-of a b c d ha hb hc j; hi = part3-of a b c d ha hb hc j }))
 
   pub nexts-stored : map nextsIn (set l i (packed a b c d)) ≡ putEnds i a c (map nextsIn l)
-  unfolding nextsIn putEnds
+  unfolding linksIn putEnds
   nexts-stored = stored nextsIn l i (packed a b c d) _ (λ j. ends (part0-of a b c d ha hb hc j) (part2-of a b c d ha hb hc j))
 
   pub prevs-stored : map prevsIn (set l i (packed a b c d)) ≡ putEnds i b d (map prevsIn l)
-  unfolding prevsIn putEnds
+  unfolding linksIn putEnds
   prevs-stored = stored prevsIn l i (packed a b c d) _ (λ j. ends (part1-of a b c d ha hb hc j) (part3-of a b c d ha hb hc j))
 
 -- one of them
 module _ (w v : ℕ) (hv : v < 65536) where
-  nexts-of-next : (first : Bool) → nextsIn (withNext first w v) ≡ putEnd first v (nextsIn w)
-  unfolding nextsIn withNext
-  nexts-of-next true = λ j. ends (part0-of v (part1 w) (part2 w) (part3 w) hv (part1-small w) (part2-small w) j) (part2-of v (part1 w) (part2 w) (part3 w) hv (part1-small w) (part2-small w) j)
-  nexts-of-next false = λ j. ends (part0-of (part0 w) (part1 w) v (part3 w) (part0-small w) (part1-small w) hv j) (part2-of (part0 w) (part1 w) v (part3 w) (part0-small w) (part1-small w) hv j)
+  this-way : (back first : Bool) → linksIn back (withLink back first w v) ≡ putEnd first v (linksIn back w)
+  unfolding linksIn withLink
+  this-way true true = λ j. ends (part1-of (part0 w) v (part2 w) (part3 w) (part0-small w) hv (part2-small w) j) (part3-of (part0 w) v (part2 w) (part3 w) (part0-small w) hv (part2-small w) j)
+  this-way true false = λ j. ends (part1-of (part0 w) (part1 w) (part2 w) v (part0-small w) (part1-small w) (part2-small w) j) (part3-of (part0 w) (part1 w) (part2 w) v (part0-small w) (part1-small w) (part2-small w) j)
+  this-way false true = λ j. ends (part0-of v (part1 w) (part2 w) (part3 w) hv (part1-small w) (part2-small w) j) (part2-of v (part1 w) (part2 w) (part3 w) hv (part1-small w) (part2-small w) j)
+  this-way false false = λ j. ends (part0-of (part0 w) (part1 w) v (part3 w) (part0-small w) (part1-small w) hv j) (part2-of (part0 w) (part1 w) v (part3 w) (part0-small w) (part1-small w) hv j)
 
-  prevs-of-next : (first : Bool) → prevsIn (withNext first w v) ≡ prevsIn w
-  unfolding prevsIn withNext
-  prevs-of-next true = λ j. ends (part1-of v (part1 w) (part2 w) (part3 w) hv (part1-small w) (part2-small w) j) (part3-of v (part1 w) (part2 w) (part3 w) hv (part1-small w) (part2-small w) j)
-  prevs-of-next false = λ j. ends (part1-of (part0 w) (part1 w) v (part3 w) (part0-small w) (part1-small w) hv j) (part3-of (part0 w) (part1 w) v (part3 w) (part0-small w) (part1-small w) hv j)
-
-  prevs-of-prev : (first : Bool) → prevsIn (withPrev first w v) ≡ putEnd first v (prevsIn w)
-  unfolding prevsIn withPrev
-  prevs-of-prev true = λ j. ends (part1-of (part0 w) v (part2 w) (part3 w) (part0-small w) hv (part2-small w) j) (part3-of (part0 w) v (part2 w) (part3 w) (part0-small w) hv (part2-small w) j)
-  prevs-of-prev false = λ j. ends (part1-of (part0 w) (part1 w) (part2 w) v (part0-small w) (part1-small w) (part2-small w) j) (part3-of (part0 w) (part1 w) (part2 w) v (part0-small w) (part1-small w) (part2-small w) j)
-
-  nexts-of-prev : (first : Bool) → nextsIn (withPrev first w v) ≡ nextsIn w
-  unfolding nextsIn withPrev
-  nexts-of-prev true = λ j. ends (part0-of (part0 w) v (part2 w) (part3 w) (part0-small w) hv (part2-small w) j) (part2-of (part0 w) v (part2 w) (part3 w) (part0-small w) hv (part2-small w) j)
-  nexts-of-prev false = λ j. ends (part0-of (part0 w) (part1 w) (part2 w) v (part0-small w) (part1-small w) (part2-small w) j) (part2-of (part0 w) (part1 w) (part2 w) v (part0-small w) (part1-small w) (part2-small w) j)
+  other-way : (back first : Bool) → linksIn (not back) (withLink back first w v) ≡ linksIn (not back) w
+  unfolding linksIn withLink
+  other-way true true = λ j. ends (part0-of (part0 w) v (part2 w) (part3 w) (part0-small w) hv (part2-small w) j) (part2-of (part0 w) v (part2 w) (part3 w) (part0-small w) hv (part2-small w) j)
+  other-way true false = λ j. ends (part0-of (part0 w) (part1 w) (part2 w) v (part0-small w) (part1-small w) (part2-small w) j) (part2-of (part0 w) (part1 w) (part2 w) v (part0-small w) (part1-small w) (part2-small w) j)
+  other-way false true = λ j. ends (part1-of v (part1 w) (part2 w) (part3 w) hv (part1-small w) (part2-small w) j) (part3-of v (part1 w) (part2 w) (part3 w) hv (part1-small w) (part2-small w) j)
+  other-way false false = λ j. ends (part1-of (part0 w) (part1 w) v (part3 w) (part0-small w) (part1-small w) hv j) (part3-of (part0 w) (part1 w) v (part3 w) (part0-small w) (part1-small w) hv j)
 
 -- ---- the same as the steps of the pool say it
-module _ (w : List Pair) (l : List ℕ) (s : ℕ) (e : Edge) (v : ℕ) {first : Bool} {r : ℕ} (some : s ≢ none) (hv : v < 65536) (here : first ≡ eqE e (end0 w s)) where
-  pub next-set : r ≡ withNext first (getD l s 0) v → (map nextsIn (set l s r) ≡ setEnd s e v w (map nextsIn l)) × (map prevsIn (set l s r) ≡ map prevsIn l)
-  unfolding setEnd
-  next-set q = (
-    rw (ne-eqb s none some, sym here, q, nexts-read l s) (stored nextsIn l s _ _ (nexts-of-next (getD l s 0) v hv first)),
-    rw q (map-set-same prevsIn l s _ 0 (prevs-of-next (getD l s 0) v hv first)),
-  )
-
-  pub prev-set : r ≡ withPrev first (getD l s 0) v → (map prevsIn (set l s r) ≡ setEnd s e v w (map prevsIn l)) × (map nextsIn (set l s r) ≡ map nextsIn l)
-  unfolding setEnd
-  prev-set q = (
-    rw (ne-eqb s none some, sym here, q, prevs-read l s) (stored prevsIn l s _ _ (prevs-of-prev (getD l s 0) v hv first)),
-    rw q (map-set-same nextsIn l s _ 0 (nexts-of-prev (getD l s 0) v hv first)),
-  )
+pub link-set : (w : List Pair) (l : List ℕ) (s : ℕ) (e : Edge) (v : ℕ) (back : Bool) {first : Bool} {r : ℕ} → s ≢ none → v < 65536 → first ≡ eqE e (end0 w s) → r ≡ withLink back first (getD l s 0) v
+    → (map (linksIn back) (set l s r) ≡ setEnd s e v w (map (linksIn back) l)) × (map (linksIn (not back)) (set l s r) ≡ map (linksIn (not back)) l)
+unfolding setEnd
+link-set w l s e v back {first} some hv here q = (
+  rw (ne-eqb s none some, sym here, q, links-read l s back) (stored (linksIn back) l s _ _ (this-way (getD l s 0) v hv back first)),
+  rw q (map-set-same (linksIn (not back)) l s _ 0 (other-way (getD l s 0) v hv back first)),
+)
 
 pub cleared : (s : ℕ) (x : List Ends) → putEnds s none none x ≡ clearEnds s x
 unfolding putEnds clearEnds

@@ -1,5 +1,5 @@
 -- What the lent buffers say, as a list for each field of a record, and what each step of the pool does to it.
-use mathlib.Core.Bool.{Bool, cond}
+use mathlib.Core.Bool.{Bool, true, false, cond}
 use mathlib.Core.List.{List, map}
 use Prim.Native.Nat.{ℕ, zero, suc, _+_, _-_}
 use lib.ListN.{getD, set}
@@ -47,11 +47,14 @@ pub record Links : Type 0 where
   pub prev : List Ends
 
 -- as they stand in a record's second word
-unfoldable pub nextsIn : ℕ → Ends
-nextsIn w = ends (part0 w) (part2 w)
+unfoldable pub linksIn : Bool → ℕ → Ends
+linksIn back w = cond back (ends (part1 w) (part3 w)) (ends (part0 w) (part2 w))
 
-unfoldable pub prevsIn : ℕ → Ends
-prevsIn w = ends (part1 w) (part3 w)
+abbrev pub nextsIn : ℕ → Ends
+nextsIn = linksIn false
+
+abbrev pub prevsIn : ℕ → Ends
+prevsIn = linksIn true
 
 abbrev pub linksOf : List ℕ → List ℕ → Links
 linksOf heads w = record { heads = heads; next = map nextsIn w; prev = map prevsIn w }

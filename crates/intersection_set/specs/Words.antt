@@ -17,9 +17,13 @@ part2 w = w / 4294967296 % 65536
 abbrev pub part3 : ℕ → ℕ
 part3 w = w / 281474976710656
 
--- a word of links with the next link of one end anew, or the previous one
-unfoldable pub withNext : Bool → ℕ → ℕ → ℕ
-withNext first w v = cond first (packed v (part1 w) (part2 w) (part3 w)) (packed (part0 w) (part1 w) v (part3 w))
+-- what one step up in the number at a place of a word of links is worth: the next link of an end, or the previous one if it goes back
+abbrev pub unitOf : Bool → Bool → ℕ
+unitOf back first = cond back (cond first 65536 281474976710656) (cond first 1 4294967296)
 
-unfoldable pub withPrev : Bool → ℕ → ℕ → ℕ
-withPrev first w v = cond first (packed (part0 w) v (part2 w) (part3 w)) (packed (part0 w) (part1 w) (part2 w) v)
+-- a word of links with one of them anew
+unfoldable pub withLink : Bool → Bool → ℕ → ℕ → ℕ
+withLink back first w v =
+    cond back
+    (cond first (packed (part0 w) v (part2 w) (part3 w)) (packed (part0 w) (part1 w) (part2 w) v))
+    (cond first (packed v (part1 w) (part2 w) (part3 w)) (packed (part0 w) (part1 w) v (part3 w)))

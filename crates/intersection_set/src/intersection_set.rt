@@ -4,15 +4,15 @@
 // and max, edge1's min and max. `links` has its links along their lists: next and previous along edge0, next and previous along edge1.
 // `heads` has each edge's newest record.
 ghost use mathlib.Core.Path.{_≡_};
-ghost use mathlib.Core.Bool.{true, cond};
+ghost use mathlib.Core.Bool.{true, not, cond};
 ghost use mathlib.Core.List.{map};
 ghost use Prim.Native.Nat.{ℕ, _<_, _≤_};
 ghost use lib.ListN.{length, getD, set, replicate};
 ghost use Rattle.index_edge.specs.Number.{edgeOf};
 ghost use Rattle.intersection_set.specs.Store.{Store, noRec, empty, push as pushed, removeAll as allRemoved, chosen};
 ghost use Rattle.intersection_set.specs.Lists.{none, headPlace};
-ghost use Rattle.intersection_set.specs.Words.{packed, part0, part1, part2, part3, withNext, withPrev};
-ghost use Rattle.intersection_set.specs.Pool.{Pool, edgesOf, nextsIn, prevsIn, linksOf, lent, poolOf, end0, end1, headAt, setEnd, setHead, unlinkFrom, putEdges, putEnds, clearEnds, poolPush, poolRemove, lesser, greater};
+ghost use Rattle.intersection_set.specs.Words.{packed, part0, part1, part2, part3, unitOf, withLink};
+ghost use Rattle.intersection_set.specs.Pool.{Pool, edgesOf, linksIn, nextsIn, prevsIn, linksOf, lent, poolOf, end0, end1, headAt, setEnd, setHead, unlinkFrom, putEdges, putEnds, clearEnds, poolPush, poolRemove, lesser, greater};
 ghost use Rattle.intersection_set.specs.Within.{Proper, EndOk, HeadOk, UnlinkOk, Sized, PushOk, RemoveOk};
 ghost use Rattle.intersection_set.specs.Holds.{Holds, MayPush};
 use crate::utils::Counts;
@@ -137,39 +137,37 @@ fn edge1_at(ends: &[u64], i: usize) -> IndexEdge
     }
 }
 
-// Where a word of links has the next link of an end, and the previous one: a factor, so that no branch is taken on the end.
-fn next_unit(first: bool) -> u64
-    ensures { λ r. ⌜ r ≡ cond first 1 4294967296 ⌝ }
+// Where a word of links has a link of an end, the next one or, back, the previous one: a factor, so that no branch is taken on the end.
+fn link_unit(back: bool, first: bool) -> u64
+    ensures { λ r. ⌜ r ≡ unitOf back first ⌝ }
 {
-    if first { 1 } else { 4294967296 }
+    if back {
+        if first { 65536 } else { 281474976710656 }
+    } else {
+        if first { 1 } else { 4294967296 }
+    }
 }
 
-fn prev_unit(first: bool) -> u64
-    ensures { λ r. ⌜ r ≡ cond first 65536 281474976710656 ⌝ }
+// A word of links with one of them anew.
+fn with_link(back: bool, first: bool, w: u64, v: u16) -> u64
+    ensures { λ r. ⌜ r ≡ withLink back first w v ⌝ }
 {
-    if first { 65536 } else { 281474976710656 }
-}
-
-// A word of links with the next link of one end anew.
-fn with_next(first: bool, w: u64, v: u16) -> u64
-    ensures { λ r. ⌜ r ≡ withNext first w v ⌝ }
-{
-    let unit = next_unit(first);
+    let unit = link_unit(back, first);
     w - (w / unit % 65536) * unit + (v as u64) * unit
 }
 
-// The same for the previous link.
-fn with_prev(first: bool, w: u64, v: u16) -> u64
-    ensures { λ r. ⌜ r ≡ withPrev first w v ⌝ }
-{
-    let unit = prev_unit(first);
-    w - (w / unit % 65536) * unit + (v as u64) * unit
-}
-
-// Sets the next link of the record s to v, in the end of s that is e (`IndexMut<IndexEdge>`). Nothing where s is no record.
-fn set_next(s: SparseIndex, e: IndexEdge, v: SparseIndex, ends: &[u64], links: &mut [u64])
-    requires { ⌜ EndOk (s .0) (edgesOf (now ends)) (map nextsIn (now links)) ⌝ }
-    ensures { λ _. ⌜ (map nextsIn (now (links .exit)) ≡ setEnd (s .0) (edgeOf e) (v .0) (edgesOf (now (ends .entry))) (map nextsIn (now (links .entry)))) × (map prevsIn (now (links .exit)) ≡ map prevsIn (now (links .entry))) ⌝ }
+// Sets the next or the previous link of the record s to v, in the end of s that is e (`IndexMut<IndexEdge>`). Nothing where s is no record.
+fn set_link(
+    back: bool,
+    s: SparseIndex,
+    e: IndexEdge,
+    v: SparseIndex,
+    ends: &[u64],
+    links: &mut [u64],
+)
+    requires { ⌜ EndOk (s .0) (edgesOf (now ends)) (map (linksIn back) (now links)) ⌝ }
+    ensures { λ _. ⌜ (map (linksIn back) (now (links .exit)) ≡ setEnd (s .0) (edgeOf e) (v .0) (edgesOf (now (ends .entry))) (map (linksIn back) (now (links .entry))))
+        × (map (linksIn (not back)) (now (links .exit)) ≡ map (linksIn (not back)) (now (links .entry))) ⌝ }
 {
     if s.is_none() {
         return;
@@ -177,21 +175,7 @@ fn set_next(s: SparseIndex, e: IndexEdge, v: SparseIndex, ends: &[u64], links: &
     let i = s.0 as usize;
     let first = e.eq(edge0_at(ends, i));
     let w = links[i];
-    links[i] = with_next(first, w, v.0);
-}
-
-// The same for the previous link.
-fn set_prev(s: SparseIndex, e: IndexEdge, v: SparseIndex, ends: &[u64], links: &mut [u64])
-    requires { ⌜ EndOk (s .0) (edgesOf (now ends)) (map prevsIn (now links)) ⌝ }
-    ensures { λ _. ⌜ (map prevsIn (now (links .exit)) ≡ setEnd (s .0) (edgeOf e) (v .0) (edgesOf (now (ends .entry))) (map prevsIn (now (links .entry)))) × (map nextsIn (now (links .exit)) ≡ map nextsIn (now (links .entry))) ⌝ }
-{
-    if s.is_none() {
-        return;
-    }
-    let i = s.0 as usize;
-    let first = e.eq(edge0_at(ends, i));
-    let w = links[i];
-    links[i] = with_prev(first, w, v.0);
+    links[i] = with_link(back, first, w, v.0);
 }
 
 // s becomes the newest record of an edge; answers the one that was it.
@@ -256,8 +240,8 @@ pub fn push(
     let next0 = take_head(n, e0, s, heads);
     let next1 = take_head(n, e1, s, heads);
     put_record(s, isect, next0, next1, ends, links);
-    set_prev(next0, e0, s, ends, links);
-    set_prev(next1, e1, s, ends, links);
+    set_link(true, next0, e0, s, ends, links);
+    set_link(true, next1, e1, s, ends, links);
     t.counts
 }
 
@@ -316,8 +300,8 @@ fn unlink(
     ensures { λ _. ⌜ linksOf (now (heads .exit)) (now (links .exit)) ≡ unlinkFrom n (edgeOf e) (next .0) (prev .0) (edgesOf (now (ends .entry))) (linksOf (now (heads .entry)) (now (links .entry))) ⌝ }
 {
     set_head(n, e, next, prev, heads);
-    set_next(prev, e, next, ends, links);
-    set_prev(next, e, prev, ends, links);
+    set_link(false, prev, e, next, ends, links);
+    set_link(true, next, e, prev, ends, links);
 }
 
 // Removes a record: out of both edges' lists and the dense order, and its slot is free.

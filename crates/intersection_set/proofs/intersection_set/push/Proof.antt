@@ -45,11 +45,11 @@ take-head-requires-2 c κs = let b = c .before .before .before .before .before .
 put-record-requires : tie.Need-put-record-requires
 put-record-requires c κs = let b = c .before .before .before .before .before .before .before .before .before .before .before .before .before .before .before .before .before .before .before .before .before .before .before .before .before .before in (in-words (now (b .args .ends)) _ pairOf (edges-ok (b .args .n) (e0 b) (e1 b) (pool b) _ (b .pre) (slot-in (c .before .before .before .before .before .before .before .before .before .before .before .before .before .before .before .before .before))), in-words (now (b .args .links)) _ nextsIn (links-ok (b .args .n) (e0 b) (e1 b) (pool b) _ (b .pre) (slot-in (c .before .before .before .before .before .before .before .before .before .before .before .before .before .before .before .before .before))))
 
-set-prev-requires : tie.Need-set-prev-requires
-set-prev-requires c κs = let b = c .before .before .before .before .before .before .before .before .before .before .before .before .before .before .before .before .before .before .before .before .before .before .before .before .before .before .before .before .before .before .before .before .before in old-ok (b .args .n) (e0 b) (e1 b) (pool b) _ (b .pre) (slot-in (c .before .before .before .before .before .before .before .before .before .before .before .before .before .before .before .before .before .before .before .before .before .before .before .before)) (c .before .before .before .before .before .before .put-record .ensures .0) (c .before .before .before .before .before .before .put-record .ensures .2) (c .before .before .before .before .before .before .before .before .before .before .before .before .before .before .before .take-head .ensures .0)
+set-link-requires : tie.Need-set-link-requires
+set-link-requires c κs = let b = c .before .before .before .before .before .before .before .before .before .before .before .before .before .before .before .before .before .before .before .before .before .before .before .before .before .before .before .before .before .before .before .before .before in old-ok (b .args .n) (e0 b) (e1 b) (pool b) _ (b .pre) (slot-in (c .before .before .before .before .before .before .before .before .before .before .before .before .before .before .before .before .before .before .before .before .before .before .before .before)) (c .before .before .before .before .before .before .put-record .ensures .0) (c .before .before .before .before .before .before .put-record .ensures .2) (c .before .before .before .before .before .before .before .before .before .before .before .before .before .before .before .take-head .ensures .0)
 
-set-prev-requires-2 : tie.Need-set-prev-requires-2
-set-prev-requires-2 c κs = let b = c .before .before .before .before .before .before .before .before .before .before .before .before .before .before .before .before .before .before .before .before .before .before .before .before .before .before .before .before .before .before .before .before .before .before .before .before .before .before in old-ok-2 (b .args .n) (e0 b) (e1 b) (pool b) _ (b .pre) (slot-in (c .before .before .before .before .before .before .before .before .before .before .before .before .before .before .before .before .before .before .before .before .before .before .before .before .before .before .before .before .before)) (c .before .before .before .before .before .before .before .before .before .before .before .put-record .ensures .0) (c .before .before .before .before .before .before .before .before .before .before .before .put-record .ensures .2) (c .before .before .before .before .before .before .before .before .before .before .before .before .before .before .before .before .before .before .before .before .take-head .ensures .0) (c .before .before .before .before .before .before .before .before .before .before .before .before .before .before .before .before .before .before .before .before .take-head .ensures .1) (c .before .before .before .before .before .before .before .before .before .before .before .before .before .before .before .before .take-head2 .ensures .0) (c .before .before .before .before .set-prev .ensures .0)
+set-link-requires-2 : tie.Need-set-link-requires-2
+set-link-requires-2 c κs = let b = c .before .before .before .before .before .before .before .before .before .before .before .before .before .before .before .before .before .before .before .before .before .before .before .before .before .before .before .before .before .before .before .before .before .before .before .before .before .before in old-ok-2 (b .args .n) (e0 b) (e1 b) (pool b) _ (b .pre) (slot-in (c .before .before .before .before .before .before .before .before .before .before .before .before .before .before .before .before .before .before .before .before .before .before .before .before .before .before .before .before .before)) (c .before .before .before .before .before .before .before .before .before .before .before .put-record .ensures .0) (c .before .before .before .before .before .before .before .before .before .before .before .put-record .ensures .2) (c .before .before .before .before .before .before .before .before .before .before .before .before .before .before .before .before .before .before .before .before .take-head .ensures .0) (c .before .before .before .before .before .before .before .before .before .before .before .before .before .before .before .before .before .before .before .before .take-head .ensures .1) (c .before .before .before .before .before .before .before .before .before .before .before .before .before .before .before .before .take-head2 .ensures .0) (c .before .before .before .before .set-link .ensures .0)
 
 same-length : tie.Need-same-length
 same-length c = search needs
@@ -68,7 +68,7 @@ same-length-5 c = c .before .before .before .before .before .before .before .bef
 
 returns : tie.Need-returns
 returns c = let b = c .before .before .before .before .before .before .before .before .before .before .before .before .before .before .before .before .before .before .before .before .before .before .before .before .before .before .before .before .before .before .before .before .before .before .before .before .before .before .before .before .before .before in
-    push-steps (b .args .n) (e0 b) (e1 b) (pool b) (b .pre) (c .before .before .before .before .before .before .before .before .before .before .before .before .before .before .before .before .before .before .before .before .before .before .before .before .before .before .before .before .before .before .before .before .before .alloc .ensures .0) (c .before .before .before .before .before .before .before .before .before .before .before .before .before .before .before .before .before .before .before .before .before .before .before .before .before .before .before .before .before .before .before .before .before .alloc .ensures .1) (c .before .before .before .before .before .before .before .before .before .before .before .before .before .before .before .before .before .before .before .before .before .before .before .before .take-head .ensures) (c .before .before .before .before .before .before .before .before .before .before .before .before .before .before .before .before .before .before .before .before .take-head2 .ensures) (c .before .before .before .before .before .before .before .before .before .before .before .before .before .before .before .put-record .ensures) (c .before .before .before .before .before .before .before .before .set-prev .ensures) (c .before .before .before .set-prev2 .ensures)
+    push-steps (b .args .n) (e0 b) (e1 b) (pool b) (b .pre) (c .before .before .before .before .before .before .before .before .before .before .before .before .before .before .before .before .before .before .before .before .before .before .before .before .before .before .before .before .before .before .before .before .before .alloc .ensures .0) (c .before .before .before .before .before .before .before .before .before .before .before .before .before .before .before .before .before .before .before .before .before .before .before .before .before .before .before .before .before .before .before .before .before .alloc .ensures .1) (c .before .before .before .before .before .before .before .before .before .before .before .before .before .before .before .before .before .before .before .before .before .before .before .before .take-head .ensures) (c .before .before .before .before .before .before .before .before .before .before .before .before .before .before .before .before .before .before .before .before .take-head2 .ensures) (c .before .before .before .before .before .before .before .before .before .before .before .before .before .before .before .put-record .ensures) (c .before .before .before .before .before .before .before .before .set-link .ensures) (c .before .before .before .set-link2 .ensures)
 
 pub push-spec : {M : Type 1} → statement M
 push-spec =
@@ -78,8 +78,8 @@ push-spec =
     take-head-requires
     take-head-requires-2
     put-record-requires
-    set-prev-requires
-    set-prev-requires-2
+    set-link-requires
+    set-link-requires-2
     same-length
     same-length-2
     same-length-3

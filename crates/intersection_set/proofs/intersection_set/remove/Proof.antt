@@ -1,9 +1,10 @@
 -- `remove` meets its contract: each call's contract is one step of `poolRemove`, in the same order.
 use mathlib.Core.Path.{sym, ap, _∙_}
+use mathlib.Core.Bool.{true, false}
 use denote.Ref.{now}
 use Rattle.index_edge.specs.Number.{edgeOf}
-use Rattle.intersection_set.specs.Pool.{Ends, Pool, pairOf, nextsIn, prevsIn, lent, poolOf}
-use Rattle.intersection_set.proofs.Words.{in-words, nexts-read, prevs-read}
+use Rattle.intersection_set.specs.Pool.{Ends, Pool, pairOf, linksIn, nextsIn, lent, poolOf}
+use Rattle.intersection_set.proofs.Words.{in-words, links-read}
 use Rattle.intersection_set.proofs.Lengths.{ReadAt, unlink-ok, unlink-ok-2, remove-steps}
 use borrow.Author.Needs.{needs}
 use Rattle.intersection_set.proofs.intersection_set.remove.Statement.{statement}
@@ -17,17 +18,17 @@ pool c =
 
 -- what is read of the record
 read : (c : tie.After-low3) → let b = c .before .before .before .before .before .before .before .before .before .before .before .before .before .before in ReadAt (pool b) (b .args .s .0) (edgeOf (c .before .before .before .before .before .before .edge0-at .result)) (edgeOf (c .before .before .before .before .before .edge1-at .result)) (c .before .before .before .low0 .result) (c .before .before .low1 .result) (c .before .low2 .result) (c .low3 .result)
-unfolding nextsIn prevsIn
+unfolding linksIn
 read c =
     let l = now (c .before .before .before .before .before .before .before .before .before .before .before .before .before .before .args .links) in
     let s = c .before .before .before .before .before .before .before .before .before .before .before .before .before .before .args .s .0 in
     record {
       edge0 = c .before .before .before .before .before .before .edge0-at .ensures;
       edge1 = c .before .before .before .before .before .edge1-at .ensures;
-      next0 = c .before .before .before .low0 .ensures ∙ sym (ap (λ (k : Ends). k .x0) (nexts-read l s));
-      prev0 = c .before .before .low1 .ensures ∙ sym (ap (λ (k : Ends). k .x0) (prevs-read l s));
-      next1 = c .before .low2 .ensures ∙ sym (ap (λ (k : Ends). k .x1) (nexts-read l s));
-      prev1 = c .low3 .ensures ∙ sym (ap (λ (k : Ends). k .x1) (prevs-read l s));
+      next0 = c .before .before .before .low0 .ensures ∙ sym (ap (λ (k : Ends). k .x0) (links-read l s false));
+      prev0 = c .before .before .low1 .ensures ∙ sym (ap (λ (k : Ends). k .x0) (links-read l s true));
+      next1 = c .before .low2 .ensures ∙ sym (ap (λ (k : Ends). k .x1) (links-read l s false));
+      prev1 = c .low3 .ensures ∙ sym (ap (λ (k : Ends). k .x1) (links-read l s true));
     }
 
 cast-i : tie.Need-cast-i

@@ -1,3 +1,4 @@
+-- `set_link` meets its contract: one word is stored, with one link anew.
 use mathlib.Core.Path.{refl, sym, ap, _∙_}
 use mathlib.Core.Logic.{_≢_}
 use borrow.Author.Tests.{eqb-false}
@@ -7,11 +8,11 @@ use denote.Ref.{now}
 use Rattle.index_edge.specs.Edge.{eqE}
 use Rattle.index_edge.specs.Number.{edgeOf}
 use Rattle.intersection_set.specs.Lists.{none}
-use Rattle.intersection_set.specs.Pool.{pairOf, edgesOf, prevsIn, setEnd}
-use Rattle.intersection_set.proofs.Words.{in-words, prev-set}
+use Rattle.intersection_set.specs.Pool.{pairOf, edgesOf, linksIn, setEnd}
+use Rattle.intersection_set.proofs.Words.{in-words, link-set}
 use borrow.Author.Needs.{needs}
-use Rattle.intersection_set.proofs.intersection_set.set_prev.Statement.{statement}
-use Rattle.intersection_set.proofs.intersection_set.set_prev.Tie as tie
+use Rattle.intersection_set.proofs.intersection_set.set_link.Statement.{statement}
+use Rattle.intersection_set.proofs.intersection_set.set_link.Tie as tie
 
 is-slot : (c : tie.After-struct-known) → c .before .before .before .before .before .args .s .0 ≢ none
 is-slot c = eqb-false (c .before .before .before .before .before .args .s .0) none (sym (c .before .before .is-none .ensures) ∙ c .before .if1 .left)
@@ -36,26 +37,26 @@ mul-w : tie.Need-mul-w
 mul-w c = search needs
 
 slice-read-w : tie.Need-slice-read-w
-slice-read-w c = in-words (now (c .before .before .before .before .before .before .before .before .args .links)) (c .before .before .before .before .before .before .before .before .args .s .0) prevsIn (c .before .before .before .before .before .before .before .before .pre .in-ends (is-slot (c .before .before .before)))
+slice-read-w c = in-words (now (c .before .before .before .before .before .before .before .before .args .links)) (c .before .before .before .before .before .before .before .before .args .s .0) (linksIn (c .before .before .before .before .before .before .before .before .args .back)) (c .before .before .before .before .before .before .before .before .pre .in-ends (is-slot (c .before .before .before)))
 
-with-prev-requires : tie.Need-with-prev-requires
-with-prev-requires c κs = search needs
+with-link-requires : tie.Need-with-link-requires
+with-link-requires c κs = search needs
 
 mul-links : tie.Need-mul-links
 mul-links c = search needs
 
 slice-write-links : tie.Need-slice-write-links
-slice-write-links c = in-words (now (c .before .before .before .before .before .before .before .before .before .args .links)) (c .before .before .before .before .before .before .before .before .before .args .s .0) prevsIn (c .before .before .before .before .before .before .before .before .before .pre .in-ends (is-slot (c .before .before .before .before)))
+slice-write-links c = in-words (now (c .before .before .before .before .before .before .before .before .before .args .links)) (c .before .before .before .before .before .before .before .before .before .args .s .0) (linksIn (c .before .before .before .before .before .before .before .before .before .args .back)) (c .before .before .before .before .before .before .before .before .before .pre .in-ends (is-slot (c .before .before .before .before)))
 
 same-length : tie.Need-same-length
 same-length c = search needs
 
 returns-2 : tie.Need-returns-2
 returns-2 c = let a = c .before .before .before .before .before .before .before .before .before .args in
-    prev-set (edgesOf (now (a .ends))) (now (a .links)) (a .s .0) (edgeOf (a .e)) (a .v .0) (is-slot (c .before .before .before .before)) (omega (arith, c .before .before .before .before .before .before .before .before .before .good)) (c .before .before .eq .ensures ∙ ap (eqE (edgeOf (a .e))) (c .before .before .before .edge0-at .ensures)) (c .with-prev .ensures)
+    link-set (edgesOf (now (a .ends))) (now (a .links)) (a .s .0) (edgeOf (a .e)) (a .v .0) (a .back) (is-slot (c .before .before .before .before)) (omega (arith, c .before .before .before .before .before .before .before .before .before .good)) (c .before .before .eq .ensures ∙ ap (eqE (edgeOf (a .e))) (c .before .before .before .edge0-at .ensures)) (c .with-link .ensures)
 
-pub set-prev-spec : {M : Type 1} → statement M
-set-prev-spec =
+pub set-link-spec : {M : Type 1} → statement M
+set-link-spec =
     tie.close
     (tie.spec
     is-none-requires
@@ -65,7 +66,7 @@ set-prev-spec =
     eq-requires
     mul-w
     slice-read-w
-    with-prev-requires
+    with-link-requires
     mul-links
     slice-write-links
     same-length
