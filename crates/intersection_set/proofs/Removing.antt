@@ -8,7 +8,7 @@ use native.Mathlib.Omega.{arith}
 use borrow.Author.Tests.{eqb-true, eqb-false}
 use lib.Dec.{eqb}
 use lib.ListN.{length, getD, set}
-use lib.Seq.{getD-set-same, getD-set-other, drop-set-lt}
+use lib.Seq.{getD-set-same, getD-set-other}
 use Rattle.algebra.specs.Cases.{both, true-or-false}
 use Rattle.index_edge.specs.Edge.{Edge, eqE}
 use Rattle.index_edge.proofs.Edges.{eqE-refl, eqE-sym}
@@ -26,7 +26,7 @@ use Rattle.intersection_set.proofs.Chains.{Links, Rep, cond-fun, names-
 use Rattle.intersection_set.proofs.HeadPlaces.{placed}
 use Rattle.intersection_set.proofs.Alike.{Same, same-then, unlink-same}
 use Rattle.intersection_set.proofs.Views.{view, At, unlink-is}
-use Rattle.intersection_set.proofs.Lengths.{inside-of, cap-small, place-lt, end-ok, head-ok, len-ends, len-head, sizes-remove, sized-same, all-none, all-suc}
+use Rattle.intersection_set.proofs.Lengths.{inside-of, cap-small, end-ok, head-ok, len-ends, len-head, sizes-remove, sized-same, all-none, all-suc}
 use Rattle.intersection_set.proofs.Holding.{each-remove, differ, stack-set, Near, reach, near-prev, near-next, rep-same, along-first, along-second, lists, lists-of, holds-of, not-none}
 use Rattle.intersection_set.proofs.Pushing.{Long, long-sized}
 

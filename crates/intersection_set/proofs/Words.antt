@@ -1,13 +1,12 @@
 -- The parts of a word that is packed, and what a store of one word does to the lists of parts.
 use mathlib.Core.Path.{_≡_, refl, sym, ap, subst, _∙_}
 use mathlib.Core.Logic.{_≢_}
-use mathlib.Core.Bool.{Bool, true, false, not, cond}
+use mathlib.Core.Bool.{Bool, true, false, not}
 use mathlib.Core.List.{List, [], _∷_, map}
 use Prim.Native.Nat.{ℕ, zero, suc, _+_, _-_, _*_, _/_, _%_, _<_, _≤_}
 use native.Mathlib.Omega.{arith}
-use lib.ListN.{length, getD, set, drop, length-map, List·getD-map}
+use lib.ListN.{length, getD, set, length-map, List·getD-map}
 use lib.Seq.{map-set-same}
-use lib.Dec.{eqb}
 use borrow.Author.Tests.{ne-eqb}
 use Rattle.index_edge.specs.Edge.{Edge, eqE}
 use Rattle.intersection_set.specs.Lists.{none}

@@ -1,21 +1,20 @@
 -- A start is accepted: the checks find nothing exactly where the buffers are long enough, the points are within the limits, the ring names
 -- each point once, no two points are equal, there are three, and not all lie on one line. Then demand 3 holds.
 use mathlib.Core.Path.{_≡_, refl, sym}
-use mathlib.Core.Bool.{Bool, true, false, not, _&&_, cond}
+use mathlib.Core.Bool.{Bool, true, false, not, cond}
 use mathlib.Core.List.{List}
 use mathlib.Core.Logic.{_↔_}
-use Prim.Native.Nat.{ℕ, zero, suc, _≤_, _<_}
+use Prim.Native.Nat.{ℕ, _≤_, _<_}
 use native.Mathlib.Omega.{arith}
 use native.Mathlib.Nat.{mod-lt}
-use lib.Dec.{eqb, ltb}
-use lib.ListN.{length}
-use borrow.Author.Tests.{ltb-true, ltb-false, lt-ltb, le-ltb, eqb-true, eq-eqb, ne-eqb}
+use lib.Dec.{ltb}
+use borrow.Author.Tests.{ltb-false, le-ltb}
 use Rattle.geometry.specs.Plane.{Point, eqP, nearP}
-use Rattle.algebra.specs.Cases.{and-left, and-right, both, le-cases, true-or-false, never, not-false}
+use Rattle.algebra.specs.Cases.{both, true-or-false, never, not-false}
 use Rattle.geometry.proofs.Points.{eqP-true, eqP-same}
 use Rattle.machine.specs.Machine.{State, place, after}
 use Rattle.machine.specs.Answer.{answer, call, inRange, noneAlike, refusal}
-use Rattle.polygon.specs.Ring.{at, eachOnce, IsRing}
+use Rattle.polygon.specs.Ring.{eachOnce, IsRing}
 use Rattle.machine.specs.Board.{AllOnLine, straightLine, Distinct, Board}
 use Rattle.machine.specs.Demand3.{Demand3, Picks}
 use Rattle.polygon.proofs.EachOnce.{each-ring, ring-each}

@@ -1,19 +1,11 @@
 -- Whether two edges meet depends on neither's direction, nor on their order.
-use mathlib.Core.Path.{_≡_, refl, sym, _∙_, ap}
-use mathlib.Core.Bool.{Bool, true, false, not, _&&_, _||_, cond, or-comm, and-comm}
+use mathlib.Core.Path.{_≡_, _∙_}
 use mathlib.Core.Logic.{_≢_}
-use Prim.Native.Nat.{ℕ, zero, suc}
-use native.Mathlib.Omega.{arith}
-use lib.IntN.{ℤ, pos, negsuc, negℤ}
-use lib.Signed.{ltZ}
-use borrow.Author.Tests.{lt-ltb, le-ltb, ne-eqb}
-use Rattle.algebra.specs.Linear.{zarith}
-use Rattle.geometry.proofs.Turns.{turn-swap}
-use Rattle.geometry.specs.Plane.{Point, turn, isZero, eqZ, eqP, ltP, minP, maxP, collinear}
-use Rattle.geometry.specs.Segment.{sameSide, shared, meets}
+use Prim.Native.Nat.{ℕ, suc}
+use Rattle.geometry.specs.Plane.{Point}
+use Rattle.geometry.specs.Segment.{meets}
 use Rattle.geometry.proofs.Symmetry.{meets-rev, meets-rev₂, meets-swap}
-use Rattle.geometry.proofs.Points.{eqZ-cases, zero-yes, zero-is, point-eq, not-below, ltP-not, three, turn-first, turn-second}
-use Rattle.algebra.specs.Cases.{and-left, and-right, both, le-cases, true-or-false, same-test}
+use Rattle.algebra.specs.Cases.{both, le-cases}
 use Rattle.index_edge.specs.Edge.{Edge, edge}
 use Rattle.machine.specs.Board.{meetE}
 

@@ -1,9 +1,9 @@
 -- The least point, and the reversal of the whole loop: the same edges, and every turn the other way.
-use mathlib.Core.Path.{_≡_, refl, sym, _∙_, ap}
+use mathlib.Core.Path.{_≡_, sym, _∙_, ap}
 use mathlib.Core.Bool.{true}
 use mathlib.Core.List.{List, [], _∷_}
 use mathlib.Core.Logic.{_≢_}
-use Prim.Native.Nat.{ℕ, zero, suc, _+_, _-_, _≤_, _<_}
+use Prim.Native.Nat.{ℕ, zero, suc, _-_, _≤_, _<_}
 use native.Mathlib.Omega.{arith}
 use lib.IntN.{ℤ, pos, negℤ}
 use lib.Signed.{ltZ, _≤ℤ_, _<ℤ_}
@@ -19,7 +19,7 @@ use Rattle.polygon.specs.Edges.{edges}
 use Rattle.machine.specs.Board.{ptAt, turnAt, straightLine}
 use Rattle.machine.specs.Answer.{leastTo, finish}
 use Rattle.machine.specs.Demand3.{Least, Finished}
-use Rattle.algebra.specs.Cases.{both, eq-cases, true-or-false, never, same-test}
+use Rattle.algebra.specs.Cases.{both, eq-cases, true-or-false, never}
 use Rattle.polygon.proofs.Positions.{next-lt, prev-lt}
 use Rattle.polygon.proofs.WholeReversal.{whole, whole-lt, whole-whole, whole-next, whole-prev, back-at, back-ring, back-edges}
 use Rattle.geometry.proofs.Height.{Apart}

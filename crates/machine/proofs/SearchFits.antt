@@ -1,11 +1,11 @@
 -- What the search for a kink and an edge hands out is a plan that fits.
 use mathlib.Core.Path.{_≡_, ap}
-use mathlib.Core.Bool.{Bool, true, _&&_}
+use mathlib.Core.Bool.{true, _&&_}
 use mathlib.Core.List.{List, [], _∷_, _++_}
 use mathlib.Core.Logic.{_≢_}
 use Prim.Native.Nat.{ℕ, zero, suc, _+_, _<_}
 use Rattle.geometry.specs.Plane.{Point, ltP, minP, maxP, collinear}
-use Rattle.geometry.specs.Segment.{inside, parallel}
+use Rattle.geometry.specs.Segment.{inside}
 use Rattle.machine.specs.Search.{Mergable, none, merge, orElse, runBack, runOn, firstKink, searchEdges, kinkAndEdge}
 use Rattle.polygon.specs.Ring.{next, prev, dist, at, stretch}
 use Rattle.machine.specs.Board.{ptAt, kinkAt, straightLine}

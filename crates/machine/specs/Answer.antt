@@ -1,5 +1,5 @@
 -- What a call answers: the checks in number order, the run, the loop reversed if need be.
-use mathlib.Core.Bool.{Bool, not, _&&_, cond}
+use mathlib.Core.Bool.{Bool, not, cond}
 use mathlib.Core.List.{List}
 use Prim.Native.Nat.{ℕ, zero, suc, _-_}
 use lib.IntN.{pos}

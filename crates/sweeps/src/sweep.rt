@@ -1,10 +1,7 @@
 // Records come and go: one edge against the ring, the start, and what a move removes and inserts.
 //
 // A pool's buffers are six slices of n×(n-1) entries each. What they hold is a store of records (`Holds`).
-ghost use mathlib.Core.Path.{_≡_};
-ghost use mathlib.Core.Bool.{Bool, true, false};
-ghost use Prim.Native.Nat.{ℕ, _-_, _*_, _≤_, _<_};
-ghost use lib.ListN.{length};
+ghost use Prim.Native.Nat.{_-_, _≤_, _<_};
 ghost use Rattle.geometry.specs.Lent.{points, Lent};
 ghost use Rattle.index_edge.specs.Number.{edgeOf};
 ghost use Rattle.polygon.specs.Ring.{IsRing};

@@ -1,9 +1,8 @@
 -- What a move finds: from buffers that hold the machine and a record that a pick takes, all that its steps ask; and that it makes the next machine.
 use mathlib.Core.Path.{_≡_, refl, sym, _∙_, ap, subst, subst⁻¹}
-use mathlib.Core.Bool.{Bool, true, false, not, _&&_, _||_, cond}
+use mathlib.Core.Bool.{Bool, true, not, _&&_, cond}
 use mathlib.Core.List.{List, [], _∷_, _++_}
-use mathlib.Core.Logic.{_≢_}
-use Prim.Native.Nat.{ℕ, zero, suc, _-_, _*_, _≤_, _<_}
+use Prim.Native.Nat.{ℕ, zero, suc, _-_, _≤_, _<_}
 use native.Mathlib.Omega.{arith}
 use native.Mathlib.Nat.{mod-lt}
 use lib.ListN.{length, getD}
@@ -13,7 +12,7 @@ use Rattle.geometry.specs.Plane.{Point}
 use Rattle.index_edge.specs.Edge.{Edge, eqE, memberE}
 use Rattle.index_edge.proofs.Edges.{eqE-of, ltE-diff, member-here, member-there}
 use Rattle.polygon.specs.Ring.{IsRing, Indexed, indexOf, prev}
-use Rattle.polygon.specs.Edges.{edges, edgeAt, direct}
+use Rattle.polygon.specs.Edges.{edges, direct}
 use Rattle.polygon.specs.Change.{Plan, stay, uncross, hoist, byHoist, cut, lay, turned, Fits}
 use Rattle.polygon.proofs.Positions.{prev-lt}
 use Rattle.polygon.proofs.RingEdges.{member-edge}

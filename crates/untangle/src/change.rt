@@ -1,12 +1,11 @@
 // What a move does to the ring (two_opt.rs, in `untangle`): the edges that it removes, those that it inserts, and the new order.
 ghost use mathlib.Core.Path.{_≡_};
-ghost use Prim.Native.Nat.{_≤_, _<_};
+ghost use Prim.Native.Nat.{_≤_};
 ghost use lib.ListN.{length};
 ghost use Rattle.index_edge.specs.Edge.{edge};
 ghost use Rattle.index_edge.specs.Number.{edgeOf};
 ghost use Rattle.polygon.specs.Ring.{IsRing, Indexed, indexOf, at as entry};
-ghost use Rattle.polygon.specs.Place.{Apart};
-ghost use Rattle.polygon.specs.Change.{cut, lay, turned, uncross, hoist, Fits, Crossed, Hung};
+ghost use Rattle.polygon.specs.Change.{cut, lay, turned, uncross, hoist, Fits};
 ghost use Rattle.moves.specs.Plan.{planOf};
 ghost use Rattle.moves.specs.Walk.{Both};
 ghost use Rattle.sweeps.specs.Few.{fewOf};

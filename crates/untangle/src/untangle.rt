@@ -1,8 +1,6 @@
 // One move on all that is lent: ring, index and records (two_opt.rs, `untangle`).
-ghost use mathlib.Core.Path.{_≡_};
 ghost use mathlib.Core.List.{List, [], _∷_, _++_};
-ghost use Prim.Native.Nat.{ℕ, _-_, _*_};
-ghost use lib.ListN.{length};
+ghost use Prim.Native.Nat.{ℕ, _-_};
 ghost use Rattle.geometry.specs.Lent.{points, Lent};
 ghost use Rattle.index_edge.specs.Number.{edgeOf};
 ghost use Rattle.intersection_set.specs.Pool.{lent, poolOf};

@@ -1,6 +1,6 @@
 -- `push` meets its contract: the calls' contracts come to the steps of `poolPush`.
 use Prim.Native.Nat.{_-_, _*_, _<_}
-use mathlib.Core.Path.{_∙_, subst⁻¹}
+use mathlib.Core.Path.{subst⁻¹}
 use denote.Ref.{now}
 use Rattle.index_edge.specs.Edge.{Edge}
 use Rattle.index_edge.specs.Number.{edgeOf}

@@ -3,7 +3,6 @@ use mathlib.Core.Path.{refl, sym, ap, _∙_}
 use mathlib.Core.Logic.{_≢_}
 use borrow.Author.Tests.{eqb-false}
 use native.Mathlib.Omega.{arith}
-use Prim.Native.Nat.{_<_}
 use denote.Ref.{now}
 use Rattle.index_edge.specs.Edge.{eqE}
 use Rattle.index_edge.specs.Number.{edgeOf}

@@ -1,5 +1,5 @@
 -- `unlink` meets its contract: the head, then the links on both sides.
-use mathlib.Core.Path.{_≡_, ap, _∙_, subst⁻¹}
+use mathlib.Core.Path.{ap, _∙_, subst⁻¹}
 use mathlib.Core.List.{List}
 use denote.Ref.{now}
 use Rattle.index_edge.specs.Number.{edgeOf}

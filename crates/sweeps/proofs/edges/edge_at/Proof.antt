@@ -1,8 +1,7 @@
 -- `edge_at` meets its contract: its two numbers are those at the position and one place on.
-use mathlib.Core.Path.{_≡_, _∙_, sym, ap, ap₂}
+use mathlib.Core.Path.{_∙_, ap, ap₂}
 use denote.Ref.{now}
 use borrow.Author.Needs.{needs}
-use native.Mathlib.Omega.{arith}
 use Rattle.index_edge.specs.Edge.{edge}
 use Rattle.polygon.specs.Ring.{at}
 use Rattle.polygon.specs.declared.position.Position.{Position}

@@ -1,11 +1,10 @@
 -- `source_at` meets its contract, by cases of what is swept.
-use mathlib.Core.Path.{_≡_, sym, _∙_, subst}
-use mathlib.Core.Bool.{Bool, true, false}
+use mathlib.Core.Path.{sym, _∙_}
+use mathlib.Core.Bool.{true}
 use denote.Ref.{now}
 use native.Mathlib.Omega.{arith}
 use Prim.Native.Nat.{_<_}
 use lib.ListN.{length, length-map}
-use borrow.Author.Needs.{needs}
 use Rattle.algebra.specs.Ranges.{upFrom, upFrom-length}
 use Rattle.polygon.specs.Edges.{edgeAt, edges}
 use Rattle.machine.proofs.Turns.{edges-at}

@@ -1,5 +1,5 @@
 -- `source_len` meets its contract, by cases of what is swept.
-use mathlib.Core.Path.{_≡_, sym, _∙_}
+use mathlib.Core.Path.{sym, _∙_}
 use borrow.Author.Needs.{needs}
 use lib.ListN.{length-map}
 use Rattle.algebra.specs.Ranges.{upFrom, upFrom-length}

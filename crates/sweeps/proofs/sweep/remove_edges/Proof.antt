@@ -1,10 +1,9 @@
 -- `remove_edges` meets its contract. The loop's invariant: whatever store the buffers held, they now hold it without the records of the edges before i.
-use Prim.Native.Nat.{ℕ, _-_, _≤_, _<_}
-use mathlib.Core.Path.{_≡_, ap, _∙_, subst, subst⁻¹, refl}
+use Prim.Native.Nat.{_-_, _≤_, _<_}
+use mathlib.Core.Path.{_≡_, _∙_, subst, subst⁻¹}
 use native.Mathlib.Omega.{arith}
 use lib.ListN.{length, take}
 use borrow.Author.Needs.{needs}
-use Rattle.index_edge.specs.Number.{edgeOf}
 use Rattle.intersection_set.specs.Store.{Store, removes}
 use Rattle.intersection_set.specs.Pool.{lent, poolOf}
 use Rattle.intersection_set.specs.Within.{Proper}

@@ -1,11 +1,10 @@
 -- `sweeps` meets its contract. The loop's invariant: whatever store the buffers held, they now hold it after the sweeps for the edges before i.
-use Prim.Native.Nat.{ℕ, _-_, _≤_, _<_}
-use mathlib.Core.Path.{_≡_, ap, _∙_, subst, subst⁻¹}
+use Prim.Native.Nat.{_-_, _≤_, _<_}
+use mathlib.Core.Path.{_≡_, _∙_, subst, subst⁻¹}
 use native.Mathlib.Omega.{arith}
-use lib.ListN.{length, take, length-map}
+use lib.ListN.{length, take}
 use denote.Ref.{now}
 use Rattle.geometry.specs.Lent.{points}
-use Rattle.index_edge.specs.Number.{edgeOf}
 use Rattle.polygon.specs.Edges.{edges}
 use Rattle.intersection_set.specs.Store.{Store}
 use Rattle.intersection_set.specs.Pool.{lent, poolOf}

@@ -1,7 +1,6 @@
 -- `from_ring` meets its contract: each part that is lent has its exact length, and what is past it stays.
-use mathlib.Core.Path.{_≡_, sym, ap, _∙_, subst, refl}
+use mathlib.Core.Path.{_≡_, sym, _∙_, subst, refl}
 use mathlib.Core.Bool.{false}
-use mathlib.Core.List.{List}
 use Prim.Native.Nat.{ℕ, _-_, _*_, _≤_, _<_}
 use native.Mathlib.Omega.{arith}
 use borrow.Author.Needs.{needs}

@@ -1,5 +1,5 @@
 -- `edge_between` meets its contract: its two numbers are those at the positions.
-use mathlib.Core.Path.{_≡_, _∙_, ap₂}
+use mathlib.Core.Path.{_∙_, ap₂}
 use borrow.Author.Needs.{needs}
 use Rattle.index_edge.specs.Edge.{edge}
 use Rattle.untangle.proofs.change.edge_between.Statement.{statement}

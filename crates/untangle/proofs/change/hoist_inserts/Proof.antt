@@ -1,6 +1,5 @@
 -- `hoist_inserts` meets its contract: the edge that closes the gap, and the two through the kink.
 use mathlib.Core.Path.{_≡_, refl, _∙_, ap, ap₂, subst⁻¹}
-use Prim.Native.Nat.{_≤_}
 use native.Mathlib.Omega.{arith}
 use denote.Ref.{now}
 use borrow.Author.Needs.{needs}

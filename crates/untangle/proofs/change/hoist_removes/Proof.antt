@@ -1,6 +1,5 @@
 -- `hoist_removes` meets its contract: the edges before and behind the kink, and the edge itself.
-use mathlib.Core.Path.{_≡_, _∙_, ap}
-use Prim.Native.Nat.{_≤_}
+use mathlib.Core.Path.{_∙_, ap}
 use native.Mathlib.Omega.{arith}
 use denote.Ref.{now}
 use borrow.Author.Needs.{needs}

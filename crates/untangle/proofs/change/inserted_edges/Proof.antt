@@ -1,7 +1,5 @@
 -- `inserted_edges` meets its contract, by cases of the move.
-use mathlib.Core.Path.{_≡_, _∙_}
-use Prim.Native.Nat.{ℕ, _≤_}
-use mathlib.Core.List.{List}
+use mathlib.Core.Path.{_∙_}
 use denote.Ref.{now}
 use borrow.Author.Needs.{needs}
 use Rattle.polygon.specs.Change.{lay}

@@ -1,5 +1,5 @@
 -- `turn_ring` meets its contract, by cases of the move: a reversal behind the first edge, or a point joined behind the edge's start.
-use mathlib.Core.Path.{_≡_, _∙_, ap}
+use mathlib.Core.Path.{_∙_, ap}
 use denote.Ref.{now}
 use borrow.Author.Needs.{needs}
 use Rattle.polygon.specs.Ring.{indexOf}

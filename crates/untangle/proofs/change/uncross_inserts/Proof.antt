@@ -1,13 +1,11 @@
 -- `uncross_inserts` meets its contract: the edges between the positions and between those one place on.
 use mathlib.Core.Path.{_≡_, _∙_, ap, ap₂, subst⁻¹}
-use Prim.Native.Nat.{_≤_}
 use native.Mathlib.Omega.{arith}
 use denote.Ref.{now}
 use borrow.Author.Needs.{needs}
 use Rattle.index_edge.specs.Edge.{edge}
 use Rattle.polygon.specs.Ring.{IsRing, at, next}
 use Rattle.polygon.specs.Place.{position}
-use Rattle.polygon.specs.declared.position.Position.{Position}
 use Rattle.polygon.proofs.Positions.{next-lt}
 use Rattle.moves.proofs.RingPositions.{at-id, at-size}
 use Rattle.untangle.proofs.Changing.{two, both-at}

@@ -1,6 +1,5 @@
 -- `uncross_removes` meets its contract: the two edges are those at the positions.
-use mathlib.Core.Path.{_≡_, _∙_, ap}
-use Prim.Native.Nat.{_≤_}
+use mathlib.Core.Path.{_∙_, ap}
 use native.Mathlib.Omega.{arith}
 use denote.Ref.{now}
 use borrow.Author.Needs.{needs}

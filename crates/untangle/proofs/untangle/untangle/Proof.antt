@@ -1,23 +1,17 @@
 -- `untangle` meets its contract: each call is one step of the machine's move, in the same order.
-use mathlib.Core.Path.{_≡_, refl, sym, _∙_, ap, subst, subst⁻¹}
-use mathlib.Core.Bool.{true}
-use mathlib.Core.List.{List, [], _∷_, _++_}
-use Prim.Native.Nat.{ℕ}
+use mathlib.Core.Path.{_≡_, _∙_, ap, subst, subst⁻¹}
 use lib.ListN.{length}
 use denote.Ref.{now}
 use Rattle.geometry.specs.Lent.{points}
-use Rattle.index_edge.specs.Edge.{Edge}
 use Rattle.index_edge.specs.Number.{edgeOf}
 use Rattle.polygon.specs.Ring.{IsRing, indexOf}
 use Rattle.polygon.specs.Edges.{edges, direct}
-use Rattle.polygon.specs.Change.{Plan, cut, lay, turned, Fits}
-use Rattle.intersection_set.specs.Store.{Store, removes}
-use Rattle.intersection_set.specs.Holds.{Holds}
+use Rattle.polygon.specs.Change.{cut, lay, turned, Fits}
+use Rattle.intersection_set.specs.Store.{removes}
 use Rattle.machine.specs.Search.{planAt}
-use Rattle.machine.specs.Machine.{scans}
 use Rattle.moves.specs.Plan.{planOf}
-use Rattle.sweeps.specs.Few.{fewOf, AllProper, FitAll}
-use Rattle.untangle.specs.Running.{stateAfter, Running, Picked}
+use Rattle.sweeps.specs.Few.{fewOf, AllProper}
+use Rattle.untangle.specs.Running.{stateAfter}
 use Rattle.untangle.proofs.Untangling.{the-board, small, the-ring, inverse, crosses, the-plan, plan-fits-ring, cuts-proper, lays-proper, turned-is-ring, room-as, next-running}
 use Rattle.untangle.proofs.untangle.untangle.Statement.{statement}
 use Rattle.untangle.proofs.untangle.untangle.Tie as tie

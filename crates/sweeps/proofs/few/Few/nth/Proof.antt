@@ -1,10 +1,9 @@
 -- `Few::nth` meets its contract: below the count, taking the first of three edges takes nothing away.
 use mathlib.Core.Path.{_≡_, sym, _∙_, ap}
-use mathlib.Core.List.{List, [], _∷_}
+use mathlib.Core.List.{[], _∷_}
 use native.Mathlib.Omega.{arith}
 use Prim.Native.Nat.{ℕ, _<_}
 use lib.ListN.{getD}
-use Rattle.index_edge.specs.Edge.{Edge}
 use Rattle.index_edge.specs.Number.{edgeOf}
 use Rattle.sweeps.specs.declared.few.Few.{Few}
 use Rattle.sweeps.specs.Few.{nowhere, fewOf}
