@@ -6,7 +6,6 @@ ghost use Prim.Native.Nat.{_-_, _*_, _≤_, _<_};
 ghost use lib.ListN.{length, take};
 ghost use Rattle.algebra.specs.Ranges.{allBelow, upFrom};
 ghost use Rattle.geometry.specs.Lent.{points, Lent};
-ghost use Rattle.polygon.specs.Ring.{next, prev};
 ghost use Rattle.machine.specs.Board.{straightLine};
 ghost use Rattle.machine.specs.Answer.{refusal};
 ghost use Rattle.checks.specs.Checks.{short, early as earlyChecks, late as lateChecks};
@@ -15,6 +14,8 @@ use super::start::in_range;
 use super::start::none_alike;
 use geometry::orientation::turn_at;
 use polygon::polygon::each_once;
+use polygon::position::next_place;
+use polygon::position::prev_place;
 
 // How many entries the buffers of the records need.
 pub fn record_size(n: usize) -> usize
@@ -83,33 +84,12 @@ fn late(n: usize, x: &[i32], y: &[i32]) -> u8
     0
 }
 
-// The number before i, and after it, around n points in their own order.
-fn before(n: usize, i: usize) -> usize
-    requires { ⌜ i < n ⌝ }
-    ensures { λ r. ⌜ r ≡ prev n i ⌝ }
-{
-    if i == 0 {
-        return n - 1;
-    }
-    i - 1
-}
-
-fn after(n: usize, i: usize) -> usize
-    requires { ⌜ i < n ⌝ }
-    ensures { λ r. ⌜ r ≡ next n i ⌝ }
-{
-    if i + 1 == n {
-        return 0;
-    }
-    i + 1
-}
-
 // Point i is collinear with the points before and after it.
 fn is_colinear(n: usize, x: &[i32], y: &[i32], i: usize) -> bool
     requires { ⌜ Lent n (now x) (now y) × (i < n) ⌝ }
     ensures { λ r. ⌜ r ≡ straightLine n (points (now (x .entry)) (now (y .entry))) (upFrom 0 n) i ⌝ }
 {
-    turn_at(x, y, before(n, i), i, after(n, i)) == 0
+    turn_at(x, y, prev_place(n, i), i, next_place(n, i)) == 0
 }
 
 // Check 7 for the points in their own order, with no ring lent.

@@ -4,8 +4,8 @@ ghost use Prim.Native.Nat.{_<_, _^_};
 ghost use lib.ListN.{length};
 ghost use lib.IntN.{natAbs, _-ℤ_};
 ghost use Rattle.geometry.specs.Lent.{points};
-ghost use Rattle.polygon.specs.Ring.{next};
 ghost use Rattle.job.specs.Feed.{reach, edgeFeed, feedOf, Drawn};
+use polygon::position::next_place;
 
 // |a - b|
 fn width(a: i32, b: i32) -> u64
@@ -28,17 +28,6 @@ fn stretch(ax: i32, ay: i32, bx: i32, by: i32) -> u64
         return dy;
     }
     dx
-}
-
-// The ring position after i.
-fn next_place(n: usize, i: usize) -> usize
-    requires { ⌜ i < n ⌝ }
-    ensures { λ r. ⌜ (r ≡ next n i) × (r < n) ⌝ }
-{
-    if i + 1 == n {
-        return 0;
-    }
-    i + 1
 }
 
 // The edge from ring position i to the next.

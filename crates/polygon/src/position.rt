@@ -83,3 +83,24 @@ impl Position {
         *self = self.prev();
     }
 }
+
+// The place after i, and before it, on a ring of n: for loops over places, which count from 0.
+pub fn next_place(n: usize, i: usize) -> usize
+    requires { ⌜ i < n ⌝ }
+    ensures { λ r. ⌜ (r ≡ next n i) × (r < n) ⌝ }
+{
+    if i + 1 == n {
+        return 0;
+    }
+    i + 1
+}
+
+pub fn prev_place(n: usize, i: usize) -> usize
+    requires { ⌜ i < n ⌝ }
+    ensures { λ r. ⌜ (r ≡ prev n i) × (r < n) ⌝ }
+{
+    if i == 0 {
+        return n - 1;
+    }
+    i - 1
+}

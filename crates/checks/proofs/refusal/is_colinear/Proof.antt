@@ -11,17 +11,17 @@ use Rattle.checks.proofs.Checking.{in-order-line}
 use Rattle.checks.proofs.refusal.is_colinear.Statement.{statement}
 use Rattle.checks.proofs.refusal.is_colinear.Tie as tie
 
-before-requires : tie.Need-before-requires
-before-requires c κs = search needs
+prev-place-requires : tie.Need-prev-place-requires
+prev-place-requires c κs = search needs
 
-after-requires : tie.Need-after-requires
-after-requires c κs = search needs
+next-place-requires : tie.Need-next-place-requires
+next-place-requires c κs = search needs
 
 turn-at-requires : tie.Need-turn-at-requires
 turn-at-requires c κs =
     let s = c .before .before in
     let l = s .pre .1 in
-    (rw (c .before .before2 .ensures) (here (s .pre .0) (prev-lt (s .args .n) (s .args .i) l)), here (s .pre .0) l, rw (c .after .ensures) (here (s .pre .0) (next-lt (s .args .n) (s .args .i) l)))
+    (rw (c .before .prev-place .ensures .0) (here (s .pre .0) (prev-lt (s .args .n) (s .args .i) l)), here (s .pre .0) l, rw (c .next-place .ensures .0) (here (s .pre .0) (next-lt (s .args .n) (s .args .i) l)))
 
 returns : tie.Need-returns
 returns c =
@@ -31,8 +31,8 @@ returns c =
     let pt = points (now (s .args .x)) (now (s .args .y)) in
     zero-bits (c .turn-at .result) (record { sfits = c .turn-at .ok })
     ∙ ap isZero (c .turn-at .ensures)
-    ∙ (λ j. collinear (pt (c .before .before .before2 .ensures j)) (pt i) (pt (c .before .after .ensures j)))
+    ∙ (λ j. collinear (pt (c .before .before .prev-place .ensures .0 j)) (pt i) (pt (c .before .next-place .ensures .0 j)))
     ∙ in-order-line n pt i (s .pre .1) (prev-lt n i (s .pre .1)) (next-lt n i (s .pre .1))
 
 pub is-colinear-spec : {M : Type 1} → statement M
-is-colinear-spec = tie.close (tie.spec before-requires after-requires turn-at-requires returns)
+is-colinear-spec = tie.close (tie.spec prev-place-requires next-place-requires turn-at-requires returns)

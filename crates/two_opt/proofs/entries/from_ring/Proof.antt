@@ -29,6 +29,13 @@ ring-long s = long-ring (s .args .n) (now (s .args .x)) (now (s .args .y)) (give
 records-long : (s : tie.Start) (i : ℕ) → i < 6 → s .args .n * (s .args .n - 1) ≤ getD (recordSized (given s .records)) i 0
 records-long s = long-records (s .args .n) (now (s .args .x)) (now (s .args .y)) (given s) (s .pre .1)
 
+-- the part that is lent of a buffer ends within it
+within : (s : tie.Start) {size : ℕ} → size ≡ s .args .n * (s .args .n - 1)
+    → (size ≤ length (now (s .args .heads))) × (size ≤ length (now (s .args .ends))) × (size ≤ length (now (s .args .links))) × (size ≤ length (now (s .args .dense))) × (size ≤ length (now (s .args .reverse))) × (size ≤ length (now (s .args .free)))
+within s e =
+    let l = records-long s in
+    (omega (arith, l 0 (omega arith)), omega (arith, l 1 (omega arith)), omega (arith, l 2 (omega arith)), omega (arith, l 3 (omega arith)), omega (arith, l 4 (omega arith)), omega (arith, l 5 (omega arith)))
+
 record-size-requires : tie.Need-record-size-requires
 record-size-requires c κs = c .before .before .before .before .before .before .before .before .before .pre .0 .few
 
@@ -39,7 +46,7 @@ part-resolve-start : tie.Need-part-resolve-start
 part-resolve-start c = search needs
 
 part-resolve-end : tie.Need-part-resolve-end
-part-resolve-end c = ring-long (c .before .before .before .before .before .before .before .before .before .before) .2
+part-resolve-end c = omega (arith, ring-long (c .before .before .before .before .before .before .before .before .before .before))
 
 sub-resolve-2 : tie.Need-sub-resolve-2
 sub-resolve-2 c = search needs
@@ -48,7 +55,7 @@ part-resolve-start-2 : tie.Need-part-resolve-start-2
 part-resolve-start-2 c = search needs
 
 part-resolve-end-2 : tie.Need-part-resolve-end-2
-part-resolve-end-2 c = ring-long (c .before .before .before .before .before .before .before .before .before .before .before) .3
+part-resolve-end-2 c = omega (arith, ring-long (c .before .before .before .before .before .before .before .before .before .before .before))
 
 sub-resolve-3 : tie.Need-sub-resolve-3
 sub-resolve-3 c = search needs
@@ -57,7 +64,7 @@ part-resolve-start-3 : tie.Need-part-resolve-start-3
 part-resolve-start-3 c = search needs
 
 part-resolve-end-3 : tie.Need-part-resolve-end-3
-part-resolve-end-3 c = omega (arith, c .before .before .record-size .ensures, records-long (c .before .before .before .before .before .before .before .before .before .before .before .before) 0 (omega arith))
+part-resolve-end-3 c = omega (arith, within (c .before .before .before .before .before .before .before .before .before .before .before .before) (c .before .before .record-size .ensures))
 
 sub-resolve-4 : tie.Need-sub-resolve-4
 sub-resolve-4 c = search needs
@@ -66,7 +73,7 @@ part-resolve-start-4 : tie.Need-part-resolve-start-4
 part-resolve-start-4 c = search needs
 
 part-resolve-end-4 : tie.Need-part-resolve-end-4
-part-resolve-end-4 c = omega (arith, c .before .before .before .record-size .ensures, records-long (c .before .before .before .before .before .before .before .before .before .before .before .before .before) 1 (omega arith))
+part-resolve-end-4 c = omega (arith, within (c .before .before .before .before .before .before .before .before .before .before .before .before .before) (c .before .before .before .record-size .ensures))
 
 sub-resolve-5 : tie.Need-sub-resolve-5
 sub-resolve-5 c = search needs
@@ -75,7 +82,7 @@ part-resolve-start-5 : tie.Need-part-resolve-start-5
 part-resolve-start-5 c = search needs
 
 part-resolve-end-5 : tie.Need-part-resolve-end-5
-part-resolve-end-5 c = omega (arith, c .before .before .before .before .record-size .ensures, records-long (c .before .before .before .before .before .before .before .before .before .before .before .before .before .before) 2 (omega arith))
+part-resolve-end-5 c = omega (arith, within (c .before .before .before .before .before .before .before .before .before .before .before .before .before .before) (c .before .before .before .before .record-size .ensures))
 
 sub-resolve-6 : tie.Need-sub-resolve-6
 sub-resolve-6 c = search needs
@@ -84,7 +91,7 @@ part-resolve-start-6 : tie.Need-part-resolve-start-6
 part-resolve-start-6 c = search needs
 
 part-resolve-end-6 : tie.Need-part-resolve-end-6
-part-resolve-end-6 c = omega (arith, c .before .before .before .before .before .record-size .ensures, records-long (c .before .before .before .before .before .before .before .before .before .before .before .before .before .before .before) 3 (omega arith))
+part-resolve-end-6 c = omega (arith, within (c .before .before .before .before .before .before .before .before .before .before .before .before .before .before .before) (c .before .before .before .before .before .record-size .ensures))
 
 sub-resolve-7 : tie.Need-sub-resolve-7
 sub-resolve-7 c = search needs
@@ -93,7 +100,7 @@ part-resolve-start-7 : tie.Need-part-resolve-start-7
 part-resolve-start-7 c = search needs
 
 part-resolve-end-7 : tie.Need-part-resolve-end-7
-part-resolve-end-7 c = omega (arith, c .before .before .before .before .before .before .record-size .ensures, records-long (c .before .before .before .before .before .before .before .before .before .before .before .before .before .before .before .before) 4 (omega arith))
+part-resolve-end-7 c = omega (arith, within (c .before .before .before .before .before .before .before .before .before .before .before .before .before .before .before .before) (c .before .before .before .before .before .before .record-size .ensures))
 
 sub-resolve-8 : tie.Need-sub-resolve-8
 sub-resolve-8 c = search needs
@@ -102,7 +109,7 @@ part-resolve-start-8 : tie.Need-part-resolve-start-8
 part-resolve-start-8 c = search needs
 
 part-resolve-end-8 : tie.Need-part-resolve-end-8
-part-resolve-end-8 c = omega (arith, c .before .before .before .before .before .before .before .record-size .ensures, records-long (c .before .before .before .before .before .before .before .before .before .before .before .before .before .before .before .before .before) 5 (omega arith))
+part-resolve-end-8 c = omega (arith, within (c .before .before .before .before .before .before .before .before .before .before .before .before .before .before .before .before .before) (c .before .before .before .before .before .before .before .record-size .ensures))
 
 resolve-requires : tie.Need-resolve-requires
 resolve-requires c κs =
