@@ -5,12 +5,10 @@ use mathlib.Core.List.{List}
 use Prim.Native.Nat.{ℕ, _<_}
 use lib.IntN.{ℤ}
 use Rattle.geometry.specs.Lent.{points}
-use Rattle.polygon.specs.Ring.{next}
 use Rattle.polygon.specs.Place.{position}
 use Rattle.polygon.specs.declared.position.Position.{Position}
-use Rattle.polygon.proofs.Positions.{next-lt}
 use Rattle.machine.specs.Board.{kinkAt}
-use Rattle.moves.specs.Walk.{RingOver, Both}
+use Rattle.moves.specs.Walk.{RingOver}
 use Rattle.moves.specs.Runs.{RunIn}
 use Rattle.moves.specs.declared.extremes.Run.{Run}
 use Rattle.moves.proofs.RingPositions.{at-id, at-size}
@@ -44,11 +42,3 @@ module _ {A : Type 0} {n : ℕ} {go : ℕ → ℕ → A} {end : A} {p : Position
   walk-steps step {rest} {k} e l h =
       let f = walk-to step e in
       record { size = at-size f; below = rw (at-id f) l; same = ap (rest k) (at-id f) ∙ h ∙ w .same }
-
--- beside a second position of the ring
-pub walk-beside : {A : Type 0} {go : ℕ → ℕ → A} {end : A} {p q : Position} {left : ℕ} → Walk (p .size) go end q left → p .id .0 < p .size → Both p q
-walk-beside w l = record { same = w .size; first = l; second = w .below }
-
--- beside the position after it
-pub next-beside : {A : Type 0} {go : ℕ → ℕ → A} {end : A} {p q : Position} {left : ℕ} → Walk (p .size) go end q left → {q' : Position} → q' ≡ position (q .size) (next (q .size) (q .id .0)) → p .id .0 < p .size → Both p q'
-next-beside {p = p} {q = q} w e l = let f = walk-to w next e in record { same = at-size f; first = l; second = rw (at-id f) (next-lt (p .size) (q .id .0) (w .below)) }
