@@ -120,7 +120,7 @@ fn keys_overlap(low: i64, high: i64, c: i64, d: i64) -> bool
 }
 
 // All four points are on one line: the order of the ends decides.
-fn overlaps(a: Segment, from: Seen, to: Seen) -> bool
+pub fn overlaps(a: Segment, from: Seen, to: Seen) -> bool
     requires { ⌜ ((x y : List ℤ) × Sight x y a from to) ⌝ }
     ensures { λ r. ⌜ ((x y : List ℤ) → Sight x y a from to → r ≡ overlap (points x y (a .edge .min .0)) (points x y (a .edge .max .0)) (points x y (from .id .0)) (points x y (to .id .0))) ⌝ }
 {
