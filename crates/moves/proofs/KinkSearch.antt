@@ -25,7 +25,7 @@ use Rattle.moves.specs.declared.extremes.Run.{Run}
 use Rattle.moves.specs.declared.search.Best.{Best}
 use Rattle.moves.specs.declared.search.Mergable.{Mergable as Answer}
 use Rattle.moves.specs.declared.search.Mergable.the-variants.{Nothing}
-use Rattle.moves.proofs.RingWalk.{Walk, walk-sized, walk-steps}
+use Rattle.moves.proofs.RingWalk.{Walk, walk-steps}
 use Rattle.moves.proofs.Carried.{Carried, way-on, ahead}
 use Rattle.moves.proofs.BestPair.{kinks-append, better-late, kinks-late, better-here, better-on, better-append, best-found, search-twice}
 
@@ -91,13 +91,21 @@ module _ (n : ℕ) (pt : ℕ → Point) (r : List ℕ) where
   edges-count : (s : Run) → length (edgesOf n s) ≡ s .edges
   edges-count s = length-stretch n (s .from .id .0) (s .edges)
 
+  pub of-both : (s t : Run) (k : ℕ) (b : Best) {c d : Best} → c ≡ better n pt r k 0 (edgesOf n s) b → d ≡ better n pt r k (s .edges) (edgesOf n t) c → d ≡ better n pt r k 0 (runEdges n s t) b
+  of-both s t k b f g =
+      let z : s .edges ≡ 0 + length (edgesOf n s) = omega (arith, edges-count s) in
+      g ∙ (λ j. better n pt r k (z j) (edgesOf n t) (f j)) ∙ sym (better-append n pt r k 0 (edgesOf n s) (edgesOf n t) b)
+
+  -- a pair of the first run is better than any of the second
+  pub of-first : (s t : Run) (k : ℕ) (b : Best) {c : Best} → c ≡ better n pt r k 0 (edgesOf n s) b → c .passed ≤ s .edges → c ≡ better n pt r k 0 (runEdges n s t) b
+  of-first s t k b {c} f h = of-both s t k b f (sym (better-late n pt r k (s .edges) (edgesOf n t) c h))
+
+  -- a point counts if it is a kink
   pub best-stays : (ps : List ℕ) (k : ℕ) (b : Best) → kinkAt n pt r k ≡ false → b ≡ withKink n pt r ps k b
   best-stays ps k b e = rw e
 
-  pub best-of-both : (s t : Run) (k : ℕ) (b : Best) {c d : Best} → kinkAt n pt r k ≡ true → c ≡ better n pt r k 0 (edgesOf n s) b → d ≡ better n pt r k (s .edges) (edgesOf n t) c → d ≡ withKink n pt r (runEdges n s t) k b
-  best-of-both s t k b e f g =
-      let z : s .edges ≡ 0 + length (edgesOf n s) = omega (arith, edges-count s) in
-      g ∙ (λ j. better n pt r k (z j) (edgesOf n t) (f j)) ∙ sym (better-append n pt r k 0 (edgesOf n s) (edgesOf n t) b) ∙ rw e
+  pub best-moves : (ps : List ℕ) (k : ℕ) (b : Best) {c : Best} → kinkAt n pt r k ≡ true → c ≡ better n pt r k 0 ps b → c ≡ withKink n pt r ps k b
+  best-moves ps k b e f = f ∙ rw e
 
   -- ---- over the points of a run: a point is a kink by those that are carried past it
   pub kink-is : {A : Type 0} {go : ℕ → ℕ → A} {end : A} {p q : Position} {left : ℕ} → Walk n go end p left → q ≡ position (p .size) (next (p .size) (p .id .0)) →
@@ -109,11 +117,11 @@ module _ (n : ℕ) (pt : ℕ → Point) (r : List ℕ) where
   all-points ps s b = ap (λ m. overKinks n pt r ps (stretch n (s .from .id .0) m) b) (add-one (s .edges))
 
   module _ (s t : Run) {b : Best} {end : Best} {q : Position} {left : ℕ} (w : Walk n (λ m i. overKinks n pt r (runEdges n s t) (stretch n i m) b) end q left) where
-    pub kink-goes : 0 < left → {b' : Best} → b' ≡ withKink (q .size) pt r (runEdges (q .size) s t) (q .id .0) b → {q' : Position} → q' ≡ position (q .size) (next (q .size) (q .id .0)) →
+    pub kink-goes : 0 < left → {b' : Best} → b' ≡ withKink n pt r (runEdges n s t) (q .id .0) b → {q' : Position} → q' ≡ position (q .size) (next (q .size) (q .id .0)) →
         Walk n (λ m i. overKinks n pt r (runEdges n s t) (stretch n i m) b') end q' (left - 1)
-    kink-goes h {b'} e f =
+    kink-goes h e f =
         walk-steps w next f (next-lt n (q .id .0) (w .below))
-        (ap (overKinks n pt r (runEdges n s t) (stretch n (next n (q .id .0)) (left - 1))) (walk-sized w (λ m. b' ≡ withKink m pt r (runEdges m s t) (q .id .0) b) e)
+        (ap (overKinks n pt r (runEdges n s t) (stretch n (next n (q .id .0)) (left - 1))) e
         ∙ sym (ap (λ m. overKinks n pt r (runEdges n s t) (stretch n (q .id .0) m) b) (let z : left ≡ suc (left - 1) = omega arith in z)))
 
     pub kinks-stop : b .passed ≡ 0 → b ≡ end

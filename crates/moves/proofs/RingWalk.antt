@@ -1,13 +1,10 @@
 -- A loop that walks along the ring: `go k i` is what the walk from position i comes to, with a count k of its steps, and each turn of the loop leaves that as it was.
 use mathlib.Core.Path.{_≡_, _∙_, ap}
-use mathlib.Core.Bool.{Bool}
 use mathlib.Core.List.{List}
 use Prim.Native.Nat.{ℕ, _<_}
 use lib.IntN.{ℤ}
-use Rattle.geometry.specs.Lent.{points}
 use Rattle.polygon.specs.Place.{position}
 use Rattle.polygon.specs.declared.position.Position.{Position}
-use Rattle.machine.specs.Board.{kinkAt}
 use Rattle.moves.specs.Walk.{RingOver}
 use Rattle.moves.specs.Runs.{RunIn}
 use Rattle.moves.specs.declared.extremes.Run.{Run}
@@ -23,10 +20,9 @@ module _ {A : Type 0} {n : ℕ} {go : ℕ → ℕ → A} {end : A} {p : Position
   pub walk-within : p .id .0 < p .size
   walk-within = rw (w .size) (w .below)
 
-  -- beside two runs of the ring, where it is known whether a kink stands
-  pub walk-runs : {x y : List ℤ} {r : List ℕ} {t : Bool} {a b : Run} → RingOver n x y r → t ≡ kinkAt n (points x y) r (p .id .0) → RunIn n a → RunIn n b →
-      RingOver (p .size) x y r × (p .id .0 < p .size) × (t ≡ kinkAt (p .size) (points x y) r (p .id .0)) × RunIn (p .size) a × RunIn (p .size) b
-  walk-runs g e h k = rw (w .size) (g, w .below, e, h, k)
+  -- beside two runs of the ring
+  pub walk-runs : {x y : List ℤ} {r : List ℕ} {a b : Run} → RingOver n x y r → RunIn n a → RunIn n b → RingOver (p .size) x y r × (p .id .0 < p .size) × RunIn (p .size) a × RunIn (p .size) b
+  walk-runs g h k = rw (w .size) (g, w .below, h, k)
 
   -- a fact of a ring of that size
   pub walk-sized : (P : ℕ → Type 0) → P (p .size) → P n

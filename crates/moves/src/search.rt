@@ -6,11 +6,11 @@ ghost use mathlib.Core.Path.{_≡_};
 ghost use Prim.Native.Nat.{min, _<_};
 ghost use Rattle.geometry.specs.Plane.{Point, ltP};
 ghost use Rattle.geometry.specs.Lent.{points, InRange, orderKey};
-ghost use Rattle.machine.specs.Board.{Board, ptAt, kinkAt};
+ghost use Rattle.machine.specs.Board.{Board, ptAt};
 ghost use Rattle.machine.specs.Search.{searchEdges, kinkAndEdge};
 ghost use Rattle.moves.specs.Walk.{RingOver, Both};
 ghost use Rattle.moves.specs.Runs.{RunIn, mergableOf, pointsOf, edgesOf, runPoints, runEdges};
-ghost use Rattle.moves.specs.Best.{better, withKink, overKinks};
+ghost use Rattle.moves.specs.Best.{better, overKinks};
 ghost use Rattle.moves.specs.Beside.{KeyOf, Starts, Beside};
 use super::extremes::Run;
 use super::extremes::distance;
@@ -141,25 +141,17 @@ fn better_on_run(
     best
 }
 
-// The best pair with one point more, which counts if it is a kink.
-fn with_kink(
-    x: &[i32],
-    y: &[i32],
-    ring: &[u16],
-    kink: Position,
-    counts: bool,
-    a: Run,
-    b: Run,
-    best: Best,
-) -> Best
-    requires { ⌜ RingOver (kink .size) (now x) (now y) (now ring) × (kink .id .0 < kink .size) × (counts ≡ kinkAt (kink .size) (points (now x) (now y)) (now ring) (kink .id .0)) × RunIn (kink .size) a × RunIn (kink .size) b ⌝ }
-    ensures { λ r. ⌜ r ≡ withKink (kink .size) (points (now (x .entry)) (now (y .entry))) (now (ring .entry)) (runEdges (kink .size) a b) (kink .id .0) best ⌝ }
+// The best pair with one kink more.
+fn with_kink(x: &[i32], y: &[i32], ring: &[u16], kink: Position, a: Run, b: Run, best: Best) -> Best
+    requires { ⌜ RingOver (kink .size) (now x) (now y) (now ring) × (kink .id .0 < kink .size) × RunIn (kink .size) a × RunIn (kink .size) b ⌝ }
+    ensures { λ r. ⌜ r ≡ better (kink .size) (points (now (x .entry)) (now (y .entry))) (now (ring .entry)) (kink .id .0) 0 (runEdges (kink .size) a b) best ⌝ }
 {
-    if !counts {
-        return best;
-    }
     let key = key_at(x, y, ring, kink);
     let of_a = better_on_run(x, y, ring, kink, key, a, 0, best);
+    // No edge of the second run comes before one of the first.
+    if of_a.passed <= a.edges {
+        return of_a;
+    }
     better_on_run(x, y, ring, kink, key, b, a.edges, of_a)
 }
 
@@ -181,8 +173,9 @@ fn with_run(x: &[i32], y: &[i32], ring: &[u16], run: Run, a: Run, b: Run, start:
         let next = at.next();
         let after = point_of(x, y, ring, next);
         // A kink would shorten the loop if it were taken out: a corner or a turning back. It is not strictly between its neighbours on a line.
-        let counts = !is_inside(before, after, here);
-        best = with_kink(x, y, ring, at, counts, a, b, best);
+        if !is_inside(before, after, here) {
+            best = with_kink(x, y, ring, at, a, b, best);
+        }
         before = here;
         here = after;
         at = next;
