@@ -26,9 +26,6 @@ use geometry::point::order_key;
 use geometry::point::point_at;
 use index_edge::IndexEdge;
 use index_edge::PointId;
-use polygon::polygon::position_to_point_id;
-use polygon::position::Position;
-use polygon::position::PositionId;
 
 // An edge with the points where it ends, and the order keys of the lesser and the greater of them.
 pub struct Segment {
@@ -62,12 +59,11 @@ pub struct Seen {
     pub turn: i64,
 }
 
-// The point at a position.
-fn seen_at(x: &[i32], y: &[i32], ring: &[u16], a: Segment, at: Position) -> Seen
-    requires { ⌜ Lent (at .size) (now x) (now y) × IsRing (at .size) (now ring) × (at .id .0 < at .size) × Proper (at .size) (edgeOf (a .edge)) × Spans (points (now x) (now y)) a ⌝ }
-    ensures { λ r. ⌜ Sees (points (now (x .entry)) (now (y .entry))) (edgeOf (a .edge)) (entry (now (ring .entry)) (at .id .0)) r ⌝ }
+// A point as an edge sees it.
+fn see(x: &[i32], y: &[i32], a: Segment, id: PointId) -> Seen
+    requires { ⌜ Here (now x) (now y) (id .0) × Here (now x) (now y) (a .edge .min .0) × Here (now x) (now y) (a .edge .max .0) × Spans (points (now x) (now y)) a ⌝ }
+    ensures { λ r. ⌜ Sees (points (now (x .entry)) (now (y .entry))) (edgeOf (a .edge)) (id .0) r ⌝ }
 {
-    let id = position_to_point_id(ring, at.id);
     let v = point_at(x, y, id.0 as usize);
     Seen {
         id: id,
@@ -77,16 +73,12 @@ fn seen_at(x: &[i32], y: &[i32], ring: &[u16], a: Segment, at: Position) -> Seen
     }
 }
 
-// The first point of a ring of n.
-pub fn seen_first(n: usize, x: &[i32], y: &[i32], ring: &[u16], a: Segment) -> Seen
-    requires { ⌜ Lent n (now x) (now y) × IsRing n (now ring) × (0 < n) × Proper n (edgeOf (a .edge)) × Spans (points (now x) (now y)) a ⌝ }
-    ensures { λ r. ⌜ Sees (points (now (x .entry)) (now (y .entry))) (edgeOf (a .edge)) (entry (now (ring .entry)) 0) r ⌝ }
+// The place after i on a ring of n.
+fn next_place(n: usize, i: usize) -> usize
+    requires { ⌜ i < n ⌝ }
+    ensures { λ r. ⌜ r ≡ next n i ⌝ }
 {
-    let first = Position {
-        id: PositionId(0),
-        size: n as u16,
-    };
-    seen_at(x, y, ring, a, first)
+    if i + 1 == n { 0 } else { i + 1 }
 }
 
 // The point after position i.
@@ -94,11 +86,16 @@ pub fn seen_after(n: usize, x: &[i32], y: &[i32], ring: &[u16], a: Segment, i: u
     requires { ⌜ Lent n (now x) (now y) × IsRing n (now ring) × (i < n) × Proper n (edgeOf (a .edge)) × Spans (points (now x) (now y)) a ⌝ }
     ensures { λ r. ⌜ Sees (points (now (x .entry)) (now (y .entry))) (edgeOf (a .edge)) (entry (now (ring .entry)) (next n i)) r ⌝ }
 {
-    let at = Position {
-        id: PositionId(i as u16),
-        size: n as u16,
-    };
-    seen_at(x, y, ring, a, at.next())
+    let at = next_place(n, i);
+    see(x, y, a, PointId(ring[at]))
+}
+
+// The first point of a ring of n comes after the last.
+pub fn seen_first(n: usize, x: &[i32], y: &[i32], ring: &[u16], a: Segment) -> Seen
+    requires { ⌜ Lent n (now x) (now y) × IsRing n (now ring) × (0 < n) × Proper n (edgeOf (a .edge)) × Spans (points (now x) (now y)) a ⌝ }
+    ensures { λ r. ⌜ Sees (points (now (x .entry)) (now (y .entry))) (edgeOf (a .edge)) (entry (now (ring .entry)) 0) r ⌝ }
+{
+    seen_after(n, x, y, ring, a, n - 1)
 }
 
 // An end of an edge: point number a, which stands at t. It is open if it ends the edge from b to c, too.
