@@ -51,10 +51,9 @@ pub fn segment_of(x: &[i32], y: &[i32], edge: IndexEdge) -> Segment
     }
 }
 
-// A point of the ring, its order key, and how an edge turns to it.
+// A point of the ring by its number, its order key, and how an edge turns to it.
 pub struct Seen {
     pub id: PointId,
-    pub at: Point,
     pub key: i64,
     pub turn: i64,
 }
@@ -67,7 +66,6 @@ fn see(x: &[i32], y: &[i32], a: Segment, id: PointId) -> Seen
     let v = point_at(x, y, id.0 as usize);
     Seen {
         id: id,
-        at: v,
         key: order_key(v),
         turn: turn_of(a.min, a.max, v),
     }
@@ -124,17 +122,19 @@ pub fn overlaps(a: Segment, from: Seen, to: Seen) -> bool
     keys_overlap(a.low, a.high, from.key, to.key)
 }
 
-// The edge meets that from one point to another, an end that they share left out.
-pub fn intersects(a: Segment, from: Seen, to: Seen) -> bool
-    requires { ⌜ ((x y : List ℤ) × Sight x y a from to) ⌝ }
-    ensures { λ r. ⌜ ((x y : List ℤ) → Sight x y a from to → r ≡ meetE (points x y) (edgeOf (a .edge)) (edgeBetween (from .id .0) (to .id .0))) ⌝ }
+// The edge meets that from one point to another, an end that they share left out. Where they lie is read again: most edges are told without it.
+pub fn intersects(x: &[i32], y: &[i32], a: Segment, from: Seen, to: Seen) -> bool
+    requires { ⌜ Sight (now x) (now y) a from to ⌝ }
+    ensures { λ r. ⌜ r ≡ meetE (points (now (x .entry)) (now (y .entry))) (edgeOf (a .edge)) (edgeBetween (from .id .0) (to .id .0)) ⌝ }
 {
     if is_zero(from.turn) & is_zero(to.turn) {
         return overlaps(a, from, to);
     }
+    let b1 = point_at(x, y, from.id.0 as usize);
+    let b2 = point_at(x, y, to.id.0 as usize);
     let a_min = endpoint(a.edge.min, from.id, to.id, a.min);
     let a_max = endpoint(a.edge.max, from.id, to.id, a.max);
-    let b_from = endpoint(from.id, a.edge.min, a.edge.max, from.at);
-    let b_to = endpoint(to.id, a.edge.min, a.edge.max, to.at);
+    let b_from = endpoint(from.id, a.edge.min, a.edge.max, b1);
+    let b_to = endpoint(to.id, a.edge.min, a.edge.max, b2);
     intersect(a_min, a_max, b_from, b_to, from.turn, to.turn)
 }

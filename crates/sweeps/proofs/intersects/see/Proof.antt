@@ -28,7 +28,7 @@ returns : tie.Need-returns
 returns c =
     let p = c .before .before .before .before .pre in
     let v = c .before .before .point-at .ensures in
-    record { number = refl; place = v; order = read-64 (c .before .order-key .ok) (c .before .order-key .ensures ∙ ap orderKey v); side = read-64 (c .turn-of .ok) (c .turn-of .ensures ∙ (λ t. turn (p .3 .first t) (p .3 .second t) (v t))) }
+    record { number = refl; order = read-64 (c .before .order-key .ok) (c .before .order-key .ensures ∙ ap orderKey v); side = read-64 (c .turn-of .ok) (c .turn-of .ensures ∙ (λ t. turn (p .3 .first t) (p .3 .second t) (v t))) }
 
 pub see-spec : {M : Type 1} → statement M
 see-spec =
