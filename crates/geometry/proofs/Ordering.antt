@@ -8,7 +8,7 @@ use lib.IntN.{ℤ, pos, negsuc}
 use lib.Signed.{ltZ, _≤ℤ_, _<ℤ_}
 use Rattle.algebra.specs.Integers.{P, N, Is, is-self, is-cast, is-add, is-mul}
 use Rattle.algebra.specs.Order.{le-down, le-up, lt-down, lt-up}
-use Rattle.algebra.specs.Cases.{both, true-or-false}
+use Rattle.algebra.specs.Cases.{both, true-or-false, never, and-left, and-right}
 use Rattle.geometry.specs.Plane.{Point, Before, near, ltP, minP, maxP}
 use Rattle.geometry.specs.Segment.{overlap}
 use Rattle.geometry.specs.Lent.{InRange, orderKey}
@@ -50,9 +50,27 @@ module _ (a b : Point) (ha : InRange a) (hb : InRange b) where
       (λ f. both (ltZ-cases (orderKey a) (orderKey b)) (λ h. absurd (omega (arith, lt-down (h .0), le-down (key-not (not-below a b f))))) (λ h. h .1 ∙ sym f))
 
 -- ---- segments on one line
+not-round : (p q s : Point) → ltP p s ≡ false → (ltP p q && ltP q s) ≡ false
+not-round p q s f = both (true-or-false (ltP p q && ltP q s)) (λ h. never (ltP p s) (ltP-trans p q s (and-left (ltP p q) (ltP q s) h) (and-right (ltP p q) (ltP q s) h)) f) (λ h. h)
+
 or-false : (t : Bool) → (t || false) ≡ t
 or-false true = refl
 or-false false = refl
+
+-- strictly between two points, in either direction
+between-is : (a b v : Point) → ((ltP a v && ltP v b) || (ltP b v && ltP v a)) ≡ (ltP (minP a b) v && ltP v (maxP a b))
+between-is a b v =
+    both (true-or-false (ltP a b))
+    (λ t. rw t (ap (λ (k : Bool). (ltP a v && ltP v b) || k) (not-round b v a (ltP-flip a b t)) ∙ or-false (ltP a v && ltP v b)))
+    (λ t. rw t (ap (λ (k : Bool). k || (ltP b v && ltP v a)) (not-round a v b t)))
+
+-- the same by their numbers
+pub between-by : (a b v : Point) → InRange a → InRange b → InRange v → {k l m : ℤ} {r : Bool} → k ≡ orderKey a → l ≡ orderKey b → m ≡ orderKey v
+    → r ≡ ((ltZ k m && ltZ m l) || (ltZ l m && ltZ m k)) → r ≡ (ltP (minP a b) v && ltP v (maxP a b))
+between-by a b v ha hb hv ea eb ev er =
+    er ∙ (λ t. (ltZ (ea t) (ev t) && ltZ (ev t) (eb t)) || (ltZ (eb t) (ev t) && ltZ (ev t) (ea t)))
+    ∙ (λ t. (key-lt a v ha hv t && key-lt v b hv hb t) || (key-lt b v hb hv t && key-lt v a hv ha t))
+    ∙ between-is a b v
 
 and-true : (t : Bool) → (t && true) ≡ t
 and-true true = refl

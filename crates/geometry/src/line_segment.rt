@@ -2,8 +2,9 @@
 ghost use mathlib.Core.Path.{_≡_};
 ghost use Prim.Native.Nat.{_≤_};
 ghost use lib.IntN.{_+ℤ_, _-ℤ_};
+ghost use lib.Signed.{ltZ};
 ghost use Rattle.algebra.specs.Size.{abs};
-ghost use mathlib.Core.Bool.{_||_};
+ghost use mathlib.Core.Bool.{_&&_, _||_};
 ghost use Rattle.geometry.specs.Plane.{turn, isZero};
 ghost use Rattle.geometry.specs.Segment.{isOpen, admits, between, contains, inside, sameSide, shared, overlap, meets};
 ghost use Rattle.geometry.specs.Lent.{spot, points, InRange, Here};
@@ -15,6 +16,7 @@ use super::point::greater;
 use super::point::in_range;
 use super::point::is_less;
 use super::point::lesser;
+use super::point::order_key;
 use super::point::point_at;
 
 // An end of a segment: an open one is itself left out.
@@ -108,12 +110,19 @@ pub fn contains(a: EndPoint, b: EndPoint, p: Point) -> Verdict
 
 // ---- strictly inside
 
+// v lies strictly between a and b, in either direction.
+fn keys_between(a: i64, b: i64, v: i64) -> bool
+    ensures { λ r. ⌜ r ≡ ((ltZ a v && ltZ v b) || (ltZ b v && ltZ v a)) ⌝ }
+{
+    ((a < v) & (v < b)) | ((b < v) & (v < a))
+}
+
 pub fn is_inside(a: Point, b: Point, v: Point) -> bool
     requires { ⌜ InRange (spot a) × InRange (spot b) × InRange (spot v) ⌝ }
     ensures { λ r. ⌜ r ≡ inside (spot a) (spot b) (spot v) ⌝ }
 {
     // The order is asked first: it takes no product, and seldom holds.
-    if !(is_less(lesser(a, b), v) & is_less(v, greater(a, b))) {
+    if !keys_between(order_key(a), order_key(b), order_key(v)) {
         return false;
     }
     is_zero(turn_of(a, b, v))

@@ -32,7 +32,7 @@ pub record Carried (undo : ℕ → ℕ → ℕ) (n : ℕ) (pt : ℕ → Point) (
   pub behind : b ≡ ptAt pt r (undo n i)
   pub here : h ≡ ptAt pt r i
 
-in-ring : {n i : ℕ} {x y : List ℤ} {r : List ℕ} {a : Point} → RingOver n x y r → i < n → a ≡ ptAt (points x y) r i → InRange a
+pub in-ring : {n i : ℕ} {x y : List ℤ} {r : List ℕ} {a : Point} → RingOver n x y r → i < n → a ≡ ptAt (points x y) r i → InRange a
 in-ring {i = i} g l e = subst⁻¹ InRange e (here-in-range (here (g .lent) (g .ring .below i l)))
 
 module _ {step undo : ℕ → ℕ → ℕ} (v : Way step undo) where

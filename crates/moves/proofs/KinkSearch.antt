@@ -20,12 +20,12 @@ use Rattle.machine.proofs.Corners.{has-corner, ring-apart}
 use Rattle.machine.proofs.Kinks.{never-none}
 use Rattle.moves.specs.Walk.{Both}
 use Rattle.moves.specs.Runs.{mergableOf, runFrom, pointsOf, edgesOf, runPoints, runEdges, Folded}
-use Rattle.moves.specs.Best.{unfound, pairOf, better, withKink, overKinks}
+use Rattle.moves.specs.Best.{unfound, pairOf, better, looking, withKink, overKinks}
 use Rattle.moves.specs.declared.extremes.Run.{Run}
 use Rattle.moves.specs.declared.search.Best.{Best}
 use Rattle.moves.specs.declared.search.Mergable.{Mergable as Answer}
 use Rattle.moves.specs.declared.search.Mergable.the-variants.{Nothing}
-use Rattle.moves.proofs.RingWalk.{Walk, walk-sized, walk-steps}
+use Rattle.moves.proofs.RingWalk.{Walk, walk-steps}
 use Rattle.moves.proofs.Carried.{Carried, way-on, ahead}
 use Rattle.moves.proofs.BestPair.{kinks-append, better-late, kinks-late, better-here, better-on, better-append, best-found, search-twice}
 
@@ -37,65 +37,75 @@ pub below-least : {e a b i : ℕ} → e ≡ min a b → i < e → (i < a) × (i 
 below-least f h = (omega arith, omega arith)
 
 -- ---- of the ends of an edge that holds a point exactly one is below it
-same-side : (s t : Bool) → Bool·beq s t ≡ true → s ≡ t
+pub other-side : (s t : Bool) → not (Bool·beq s t) ≡ true → not t ≡ s
+other-side true true e = e
+other-side true false e = refl
+other-side false true e = refl
+other-side false false e = sym e
+
+pub same-side : (s t : Bool) → not (Bool·beq s t) ≡ false → t ≡ s
 same-side true true e = refl
 same-side true false e = sym e
 same-side false true e = e
 same-side false false e = refl
 
 module _ (n : ℕ) (pt : ℕ → Point) (r : List ℕ) where
-  pub one-side : (k p : ℕ) {s t : Bool} → s ≡ ltP (ptAt pt r p) (ptAt pt r k) → t ≡ ltP (ptAt pt r (next n p)) (ptAt pt r k) → Bool·beq s t ≡ true → false ≡ heldAt n pt r k p
-  one-side k p {s} {t} e f d =
-      let g = same-side s t d in
+  pub one-side : (k p : ℕ) {s : Bool} → s ≡ ltP (ptAt pt r p) (ptAt pt r k) → s ≡ ltP (ptAt pt r (next n p)) (ptAt pt r k) → heldAt n pt r k p ≡ false
+  one-side k p e f =
       let a = ptAt pt r p in
       let b = ptAt pt r (next n p) in
       let v = ptAt pt r k in
       both (true-or-false (heldAt n pt r k p))
       (λ h. both (inside-is a b v h .1)
-      (λ i. absurd (ltP-not b v (sym f ∙ sym g ∙ e ∙ i .0) (i .1)))
-      (λ i. absurd (ltP-not a v (sym e ∙ g ∙ f ∙ i .0) (i .1))))
-      (λ h. sym h)
+      (λ i. absurd (ltP-not b v (sym f ∙ e ∙ i .0) (i .1)))
+      (λ i. absurd (ltP-not a v (sym e ∙ f ∙ i .0) (i .1))))
+      (λ h. h)
 
-  -- ---- along the edges of a run, before whose end there are `after` edges
-  abbrev pub looking : ℕ → Best → ℕ → ℕ → ℕ → Best
-  looking k b after i p = better n pt r k i (stretch n p (after - i)) b
-
-  pub whole-run : (k : ℕ) (b : Best) (before edges p : ℕ) → looking k b (before + edges) before p ≡ better n pt r k before (stretch n p edges) b
+  -- ---- along the edges of a run, up to whose end there are `after` edges
+  pub whole-run : (k : ℕ) (b : Best) (before edges p : ℕ) → looking n pt r k b (before + edges) before p ≡ better n pt r k before (stretch n p edges) b
   whole-run k b before edges p = ap (λ m. better n pt r k before (stretch n p m) b) (let z : before + edges - before ≡ edges = omega arith in z)
 
-  module _ (k : ℕ) (b : Best) (after : ℕ) {end : Best} {q : Position} {i : ℕ} (w : Walk n (looking k b after) end q i) where
-    edges-on : i < after → stretch n (q .id .0) (after - i) ≡ q .id .0 ∷ stretch n (next n (q .id .0)) (after - (i + 1))
-    edges-on h = ap (stretch n (q .id .0)) (let z : after - i ≡ suc (after - (i + 1)) = omega arith in z)
+  module _ (k : ℕ) (b : Best) (after p i : ℕ) where
+    edges-on : i < after → stretch n p (after - i) ≡ p ∷ stretch n (next n p) (after - (i + 1))
+    edges-on h = ap (stretch n p) (let z : after - i ≡ suc (after - (i + 1)) = omega arith in z)
 
-    pub pair-here : i < b .passed → i < after → heldAt n pt r k (q .id .0) ≡ true → pairOf k i (q .id .0) ≡ end
+    -- an edge that does not hold the kink is passed
+    pub pair-goes : i < after → heldAt n pt r k p ≡ false → looking n pt r k b after (i + 1) (next n p) ≡ looking n pt r k b after i p
+    pair-goes h e =
+        ap (λ j. better n pt r k j (stretch n (next n p) (after - (i + 1))) b) (let z : i + 1 ≡ suc i = omega arith in z)
+        ∙ sym (ap (λ ps. better n pt r k i ps b) (edges-on h) ∙ better-on n pt r k i p (stretch n (next n p) (after - (i + 1))) b e)
+
+    -- one that holds it is found
+    pub pair-here : i < b .passed → i < after → heldAt n pt r k p ≡ true → pairOf k i p ≡ looking n pt r k b after i p
     pair-here l h e =
-        sym (better-here n pt r k i (q .id .0) (stretch n (next n (q .id .0)) (after - (i + 1))) b l e)
-        ∙ ap (λ ps. better n pt r k i ps b) (sym (edges-on h)) ∙ w .same
+        sym (better-here n pt r k i p (stretch n (next n p) (after - (i + 1))) b l e) ∙ ap (λ ps. better n pt r k i ps b) (sym (edges-on h))
 
-    pub pair-goes : i < after → heldAt n pt r k (q .id .0) ≡ false → {q' : Position} → q' ≡ position (q .size) (next (q .size) (q .id .0)) → Walk n (looking k b after) end q' (i + 1)
-    pair-goes h e f =
-        walk-steps w next f (next-lt n (q .id .0) (w .below))
-        (ap (λ j. better n pt r k j (stretch n (next n (q .id .0)) (after - (i + 1))) b) (let z : i + 1 ≡ suc i = omega arith in z)
-        ∙ sym (ap (λ ps. better n pt r k i ps b) (edges-on h) ∙ better-on n pt r k i (q .id .0) (stretch n (next n (q .id .0)) (after - (i + 1))) b e))
-
-    pub pair-ends : {e : ℕ} → e ≡ min (b .passed) after → e ≤ i → b ≡ end
+    -- all that count are passed
+    pub pair-ends : {e : ℕ} → e ≡ min (b .passed) after → e ≤ i → b ≡ looking n pt r k b after i p
     pair-ends {e} f l =
         both (le-cases (b .passed) i)
-        (λ h. sym (better-late n pt r k i (stretch n (q .id .0) (after - i)) b (h .0)))
-        (λ h. sym (ap (λ m. better n pt r k i (stretch n (q .id .0) m) b) (let z : after - i ≡ 0 = omega arith in z)))
-        ∙ w .same
+        (λ h. sym (better-late n pt r k i (stretch n p (after - i)) b (h .0)))
+        (λ h. sym (ap (λ m. better n pt r k i (stretch n p m) b) (let z : after - i ≡ 0 = omega arith in z)))
 
   -- ---- one point more
   edges-count : (s : Run) → length (edgesOf n s) ≡ s .edges
   edges-count s = length-stretch n (s .from .id .0) (s .edges)
 
+  pub of-both : (s t : Run) (k : ℕ) (b : Best) {c d : Best} → c ≡ better n pt r k 0 (edgesOf n s) b → d ≡ better n pt r k (s .edges) (edgesOf n t) c → d ≡ better n pt r k 0 (runEdges n s t) b
+  of-both s t k b f g =
+      let z : s .edges ≡ 0 + length (edgesOf n s) = omega (arith, edges-count s) in
+      g ∙ (λ j. better n pt r k (z j) (edgesOf n t) (f j)) ∙ sym (better-append n pt r k 0 (edgesOf n s) (edgesOf n t) b)
+
+  -- a pair of the first run is better than any of the second
+  pub of-first : (s t : Run) (k : ℕ) (b : Best) {c : Best} → c ≡ better n pt r k 0 (edgesOf n s) b → c .passed ≤ s .edges → c ≡ better n pt r k 0 (runEdges n s t) b
+  of-first s t k b {c} f h = of-both s t k b f (sym (better-late n pt r k (s .edges) (edgesOf n t) c h))
+
+  -- a point counts if it is a kink
   pub best-stays : (ps : List ℕ) (k : ℕ) (b : Best) → kinkAt n pt r k ≡ false → b ≡ withKink n pt r ps k b
   best-stays ps k b e = rw e
 
-  pub best-of-both : (s t : Run) (k : ℕ) (b : Best) {c d : Best} → kinkAt n pt r k ≡ true → c ≡ better n pt r k 0 (edgesOf n s) b → d ≡ better n pt r k (s .edges) (edgesOf n t) c → d ≡ withKink n pt r (runEdges n s t) k b
-  best-of-both s t k b e f g =
-      let z : s .edges ≡ 0 + length (edgesOf n s) = omega (arith, edges-count s) in
-      g ∙ (λ j. better n pt r k (z j) (edgesOf n t) (f j)) ∙ sym (better-append n pt r k 0 (edgesOf n s) (edgesOf n t) b) ∙ rw e
+  pub best-moves : (ps : List ℕ) (k : ℕ) (b : Best) {c : Best} → kinkAt n pt r k ≡ true → c ≡ better n pt r k 0 ps b → c ≡ withKink n pt r ps k b
+  best-moves ps k b e f = f ∙ rw e
 
   -- ---- over the points of a run: a point is a kink by those that are carried past it
   pub kink-is : {A : Type 0} {go : ℕ → ℕ → A} {end : A} {p q : Position} {left : ℕ} → Walk n go end p left → q ≡ position (p .size) (next (p .size) (p .id .0)) →
@@ -107,11 +117,11 @@ module _ (n : ℕ) (pt : ℕ → Point) (r : List ℕ) where
   all-points ps s b = ap (λ m. overKinks n pt r ps (stretch n (s .from .id .0) m) b) (add-one (s .edges))
 
   module _ (s t : Run) {b : Best} {end : Best} {q : Position} {left : ℕ} (w : Walk n (λ m i. overKinks n pt r (runEdges n s t) (stretch n i m) b) end q left) where
-    pub kink-goes : 0 < left → {b' : Best} → b' ≡ withKink (q .size) pt r (runEdges (q .size) s t) (q .id .0) b → {q' : Position} → q' ≡ position (q .size) (next (q .size) (q .id .0)) →
+    pub kink-goes : 0 < left → {b' : Best} → b' ≡ withKink n pt r (runEdges n s t) (q .id .0) b → {q' : Position} → q' ≡ position (q .size) (next (q .size) (q .id .0)) →
         Walk n (λ m i. overKinks n pt r (runEdges n s t) (stretch n i m) b') end q' (left - 1)
-    kink-goes h {b'} e f =
+    kink-goes h e f =
         walk-steps w next f (next-lt n (q .id .0) (w .below))
-        (ap (overKinks n pt r (runEdges n s t) (stretch n (next n (q .id .0)) (left - 1))) (walk-sized w (λ m. b' ≡ withKink m pt r (runEdges m s t) (q .id .0) b) e)
+        (ap (overKinks n pt r (runEdges n s t) (stretch n (next n (q .id .0)) (left - 1))) e
         ∙ sym (ap (λ m. overKinks n pt r (runEdges n s t) (stretch n (q .id .0) m) b) (let z : left ≡ suc (left - 1) = omega arith in z)))
 
     pub kinks-stop : b .passed ≡ 0 → b ≡ end

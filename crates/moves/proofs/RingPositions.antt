@@ -1,5 +1,5 @@
 -- Positions of a ring over lent points: what a callee asks of a position, and where the points stand that the ring names.
-use mathlib.Core.Path.{_≡_, sym, ap, subst⁻¹}
+use mathlib.Core.Path.{_≡_, ap, subst⁻¹}
 use mathlib.Core.List.{List}
 use Prim.Native.Nat.{ℕ, _<_}
 use lib.IntN.{ℤ}
@@ -34,7 +34,3 @@ second-over g b = rw (b .same) (g, b .second)
 
 pub second-ring : {p q : Position} {r : List ℕ} → IsRing (p .size) r → Both p q → IsRing (q .size) r × (q .id .0 < q .size)
 second-ring g b = rw (b .same) (g, b .second)
-
--- the same two, the second first
-pub turned : {p q : Position} {x y : List ℤ} {r : List ℕ} → RingOver (p .size) x y r → Both p q → RingOver (q .size) x y r × Both q p
-turned g b = (rw (b .same) g, record { same = sym (b .same); first = rw (b .same) (b .second); second = rw (b .same) (b .first) })

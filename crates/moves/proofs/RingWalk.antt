@@ -1,16 +1,11 @@
 -- A loop that walks along the ring: `go k i` is what the walk from position i comes to, with a count k of its steps, and each turn of the loop leaves that as it was.
 use mathlib.Core.Path.{_≡_, _∙_, ap}
-use mathlib.Core.Bool.{Bool}
 use mathlib.Core.List.{List}
 use Prim.Native.Nat.{ℕ, _<_}
 use lib.IntN.{ℤ}
-use Rattle.geometry.specs.Lent.{points}
-use Rattle.polygon.specs.Ring.{next}
 use Rattle.polygon.specs.Place.{position}
 use Rattle.polygon.specs.declared.position.Position.{Position}
-use Rattle.polygon.proofs.Positions.{next-lt}
-use Rattle.machine.specs.Board.{kinkAt}
-use Rattle.moves.specs.Walk.{RingOver, Both}
+use Rattle.moves.specs.Walk.{RingOver}
 use Rattle.moves.specs.Runs.{RunIn}
 use Rattle.moves.specs.declared.extremes.Run.{Run}
 use Rattle.moves.proofs.RingPositions.{at-id, at-size}
@@ -25,10 +20,9 @@ module _ {A : Type 0} {n : ℕ} {go : ℕ → ℕ → A} {end : A} {p : Position
   pub walk-within : p .id .0 < p .size
   walk-within = rw (w .size) (w .below)
 
-  -- beside two runs of the ring, where it is known whether a kink stands
-  pub walk-runs : {x y : List ℤ} {r : List ℕ} {t : Bool} {a b : Run} → RingOver n x y r → t ≡ kinkAt n (points x y) r (p .id .0) → RunIn n a → RunIn n b →
-      RingOver (p .size) x y r × (p .id .0 < p .size) × (t ≡ kinkAt (p .size) (points x y) r (p .id .0)) × RunIn (p .size) a × RunIn (p .size) b
-  walk-runs g e h k = rw (w .size) (g, w .below, e, h, k)
+  -- beside two runs of the ring
+  pub walk-runs : {x y : List ℤ} {r : List ℕ} {a b : Run} → RingOver n x y r → RunIn n a → RunIn n b → RingOver (p .size) x y r × (p .id .0 < p .size) × RunIn (p .size) a × RunIn (p .size) b
+  walk-runs g h k = rw (w .size) (g, w .below, h, k)
 
   -- a fact of a ring of that size
   pub walk-sized : (P : ℕ → Type 0) → P (p .size) → P n
@@ -44,11 +38,3 @@ module _ {A : Type 0} {n : ℕ} {go : ℕ → ℕ → A} {end : A} {p : Position
   walk-steps step {rest} {k} e l h =
       let f = walk-to step e in
       record { size = at-size f; below = rw (at-id f) l; same = ap (rest k) (at-id f) ∙ h ∙ w .same }
-
--- beside a second position of the ring
-pub walk-beside : {A : Type 0} {go : ℕ → ℕ → A} {end : A} {p q : Position} {left : ℕ} → Walk (p .size) go end q left → p .id .0 < p .size → Both p q
-walk-beside w l = record { same = w .size; first = l; second = w .below }
-
--- beside the position after it
-pub next-beside : {A : Type 0} {go : ℕ → ℕ → A} {end : A} {p q : Position} {left : ℕ} → Walk (p .size) go end q left → {q' : Position} → q' ≡ position (q .size) (next (q .size) (q .id .0)) → p .id .0 < p .size → Both p q'
-next-beside {p = p} {q = q} w e l = let f = walk-to w next e in record { same = at-size f; first = l; second = rw (at-id f) (next-lt (p .size) (q .id .0) (w .below)) }

@@ -13,7 +13,7 @@ use Rattle.polygon.proofs.Positions.{next-lt, prev-lt, dist-lt}
 use Rattle.machine.specs.Board.{ptAt, straightLine}
 use Rattle.machine.specs.Search.{runBack, runOn}
 use Rattle.machine.proofs.SearchFits.{runBack-lt, runOn-lt}
-use Rattle.moves.specs.Walk.{RingOver, Both}
+use Rattle.moves.specs.Walk.{RingOver}
 use Rattle.moves.specs.Runs.{runFrom, RunIn}
 use Rattle.moves.specs.declared.extremes.Run.{Run}
 use Rattle.moves.proofs.RingWalk.{Walk, walk-steps}
@@ -96,9 +96,6 @@ module _ (pt : ℕ → Point) (r : List ℕ) {n a : ℕ} (l : a < n) where
         λ t. record { from = e t; edges = k t }
 
 -- ---- runs of one ring
-pub starts-beside : {p : Position} {s : Run} → p .id .0 < p .size → RunIn (p .size) s → Both p (s .from)
-starts-beside l h = record { same = h .size; first = l; second = h .below }
-
 pub run-beside : {n : ℕ} {s a b : Run} {x y : List ℤ} {r : List ℕ} → RunIn n s → RingOver n x y r → RunIn n a → RunIn n b →
     RingOver (s .from .size) x y r × RunIn (s .from .size) s × RunIn (s .from .size) a × RunIn (s .from .size) b
 run-beside {s = s} {a = a} {b = b} {x = x} {y = y} {r = r} h g k l = subst⁻¹ (λ m. RingOver m x y r × RunIn m s × RunIn m a × RunIn m b) (h .size) (g, h, k, l)

@@ -1,4 +1,5 @@
 pub mod Walk
 pub mod Runs
 pub mod Best
+pub mod Beside
 pub mod Plan

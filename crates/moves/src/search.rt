@@ -4,22 +4,21 @@
 // looked for only among the edges that come before the best one so far: an edge that comes later can be no answer.
 ghost use mathlib.Core.Path.{_≡_};
 ghost use Prim.Native.Nat.{min, _<_};
-ghost use Rattle.geometry.specs.Plane.{ltP};
-ghost use Rattle.geometry.specs.Lent.{points};
-ghost use Rattle.polygon.specs.Ring.{next};
-ghost use Rattle.machine.specs.Board.{Board, ptAt, kinkAt};
-ghost use Rattle.machine.specs.Search.{heldAt, searchEdges, kinkAndEdge};
+ghost use Rattle.geometry.specs.Plane.{Point, ltP};
+ghost use Rattle.geometry.specs.Lent.{points, InRange, orderKey};
+ghost use Rattle.machine.specs.Board.{Board, ptAt};
+ghost use Rattle.machine.specs.Search.{searchEdges, kinkAndEdge};
 ghost use Rattle.moves.specs.Walk.{RingOver, Both};
 ghost use Rattle.moves.specs.Runs.{RunIn, mergableOf, pointsOf, edgesOf, runPoints, runEdges};
-ghost use Rattle.moves.specs.Best.{better, withKink, overKinks};
+ghost use Rattle.moves.specs.Best.{better, overKinks};
+ghost use Rattle.moves.specs.Beside.{KeyOf, Starts, Beside};
 use super::extremes::Run;
 use super::extremes::distance;
 use super::extremes::linear_extremes;
 use super::vertex::holds;
-use super::vertex::number_at;
 use super::vertex::point_of;
 use geometry::line_segment::is_inside;
-use geometry::point::less_at;
+use geometry::point::order_key;
 use polygon::position::Position;
 use polygon::position::PositionId;
 
@@ -42,31 +41,57 @@ fn lesser_count(a: u16, b: u16) -> u16
     if a < b { a } else { b }
 }
 
-// The point at a position is below the kink in point order.
-fn is_below(x: &[i32], y: &[i32], ring: &[u16], at: Position, kink: Position) -> bool
-    requires { ⌜ RingOver (kink .size) (now x) (now y) (now ring) × Both kink at ⌝ }
-    ensures { λ r. ⌜ r ≡ ltP (ptAt (points (now (x .entry)) (now (y .entry))) (now (ring .entry)) (at .id .0)) (ptAt (points (now (x .entry)) (now (y .entry))) (now (ring .entry)) (kink .id .0)) ⌝ }
+// The order key of the point at a position.
+fn key_at(x: &[i32], y: &[i32], ring: &[u16], at: Position) -> i64
+    requires { ⌜ RingOver (at .size) (now x) (now y) (now ring) × (at .id .0 < at .size) ⌝ }
+    ensures { λ r. ⌜ r ≡ orderKey (ptAt (points (now (x .entry)) (now (y .entry))) (now (ring .entry)) (at .id .0)) ⌝ }
 {
-    less_at(x, y, number_at(ring, at), number_at(ring, kink))
+    order_key(point_of(x, y, ring, at))
 }
 
-// The edge holds the kink. Only an edge whose ends lie on both sides of the kink in point order can: `first` and `second` tell which of them is below it.
-fn holds_between(
+// The point at a position is below the one with a key.
+fn is_below(x: &[i32], y: &[i32], ring: &[u16], at: Position, key: i64) -> bool
+    requires { ⌜ RingOver (at .size) (now x) (now y) (now ring) × (at .id .0 < at .size) ⌝ }
+    ensures { λ r. ⌜ ((v : Point) → InRange v → key ≡ orderKey v → r ≡ ltP (ptAt (points (now (x .entry)) (now (y .entry))) (now (ring .entry)) (at .id .0)) v) ⌝ }
+{
+    key_at(x, y, ring, at) < key
+}
+
+// An edge of a run: where it starts, and how many edges of both runs come before it.
+pub struct RunEdge {
+    pub at: PositionId,
+    pub passed: u16,
+}
+
+// Passes over the edges whose ends lie on one side of the kink in point order, up to `end`: none of them holds it. `below` tells on which side the first starts.
+fn pass_beside(
     x: &[i32],
     y: &[i32],
     ring: &[u16],
-    edge: Position,
     kink: Position,
-    first: bool,
-    second: bool,
-) -> bool
-    requires { ⌜ RingOver (kink .size) (now x) (now y) (now ring) × Both kink edge × (first ≡ ltP (ptAt (points (now x) (now y)) (now ring) (edge .id .0)) (ptAt (points (now x) (now y)) (now ring) (kink .id .0))) × (second ≡ ltP (ptAt (points (now x) (now y)) (now ring) (next (kink .size) (edge .id .0))) (ptAt (points (now x) (now y)) (now ring) (kink .id .0))) ⌝ }
-    ensures { λ r. ⌜ r ≡ heldAt (kink .size) (points (now (x .entry)) (now (y .entry))) (now (ring .entry)) (kink .id .0) (edge .id .0) ⌝ }
+    key: i64,
+    below: bool,
+    start: RunEdge,
+    end: u16,
+) -> RunEdge
+    requires { ⌜ RingOver (kink .size) (now x) (now y) (now ring) × KeyOf (points (now x) (now y)) (now ring) kink key × Starts (kink .size) (points (now x) (now y)) (now ring) (kink .id .0) below (start .at .0) ⌝ }
+    ensures { λ r. ⌜ Beside (kink .size) (points (now (x .entry)) (now (y .entry))) (now (ring .entry)) (kink .id .0) below end start r ⌝ }
 {
-    if first == second {
-        return false;
+    let mut at = start.at;
+    let mut passed = start.passed;
+    while passed < end {
+        let here = Position {
+            id: at,
+            size: kink.size,
+        };
+        let next = here.next();
+        if is_below(x, y, ring, next, key) != below {
+            return RunEdge { at, passed };
+        }
+        at = next.id;
+        passed += 1;
     }
-    holds(x, y, ring, edge, kink)
+    RunEdge { at, passed }
 }
 
 // The kink with the first edge of a run that holds it, if that comes before the best edge so far. `before` edges come before the run.
@@ -75,53 +100,59 @@ fn better_on_run(
     y: &[i32],
     ring: &[u16],
     kink: Position,
+    key: i64,
     run: Run,
     before: u16,
     best: Best,
 ) -> Best
-    requires { ⌜ RingOver (kink .size) (now x) (now y) (now ring) × (kink .id .0 < kink .size) × RunIn (kink .size) run × (before < kink .size) ⌝ }
+    requires { ⌜ RingOver (kink .size) (now x) (now y) (now ring) × KeyOf (points (now x) (now y)) (now ring) kink key × RunIn (kink .size) run × (before < kink .size) ⌝ }
     ensures { λ r. ⌜ r ≡ better (kink .size) (points (now (x .entry)) (now (y .entry))) (now (ring .entry)) (kink .id .0) before (edgesOf (kink .size) run) best ⌝ }
 {
     let after = before + run.edges;
     let end = lesser_count(best.passed, after);
-    let mut at = run.from;
-    let mut below = is_below(x, y, ring, at, kink);
-    let mut passed = before;
-    while passed < end {
-        let next = at.next();
-        let next_below = is_below(x, y, ring, next, kink);
-        if holds_between(x, y, ring, at, kink, below, next_below) {
+    let from = run.from;
+    let mut below = is_below(x, y, ring, from, key);
+    let at = from.id;
+    let mut edge = RunEdge { at, passed: before };
+    while edge.passed < end {
+        let across = pass_beside(x, y, ring, kink, key, below, edge, end);
+        if end <= across.passed {
+            return best;
+        }
+        let id = across.at;
+        let start = Position {
+            id,
+            size: kink.size,
+        };
+        let passed = across.passed;
+        if holds(x, y, ring, start, kink) {
             let kink = kink.id;
-            let edge = at.id;
-            let found = Mergable::Found { kink, edge };
+            let found = Mergable::Found { kink, edge: id };
             return Best { passed, found };
         }
-        at = next;
-        below = next_below;
-        passed += 1;
+        let next = start.next();
+        let at = next.id;
+        edge = RunEdge {
+            at,
+            passed: passed + 1,
+        };
+        below = !below;
     }
     best
 }
 
-// The best pair with one point more, which counts if it is a kink.
-fn with_kink(
-    x: &[i32],
-    y: &[i32],
-    ring: &[u16],
-    kink: Position,
-    counts: bool,
-    a: Run,
-    b: Run,
-    best: Best,
-) -> Best
-    requires { ⌜ RingOver (kink .size) (now x) (now y) (now ring) × (kink .id .0 < kink .size) × (counts ≡ kinkAt (kink .size) (points (now x) (now y)) (now ring) (kink .id .0)) × RunIn (kink .size) a × RunIn (kink .size) b ⌝ }
-    ensures { λ r. ⌜ r ≡ withKink (kink .size) (points (now (x .entry)) (now (y .entry))) (now (ring .entry)) (runEdges (kink .size) a b) (kink .id .0) best ⌝ }
+// The best pair with one kink more.
+fn with_kink(x: &[i32], y: &[i32], ring: &[u16], kink: Position, a: Run, b: Run, best: Best) -> Best
+    requires { ⌜ RingOver (kink .size) (now x) (now y) (now ring) × (kink .id .0 < kink .size) × RunIn (kink .size) a × RunIn (kink .size) b ⌝ }
+    ensures { λ r. ⌜ r ≡ better (kink .size) (points (now (x .entry)) (now (y .entry))) (now (ring .entry)) (kink .id .0) 0 (runEdges (kink .size) a b) best ⌝ }
 {
-    if !counts {
-        return best;
+    let key = key_at(x, y, ring, kink);
+    let of_a = better_on_run(x, y, ring, kink, key, a, 0, best);
+    // No edge of the second run comes before one of the first.
+    if of_a.passed <= a.edges {
+        return of_a;
     }
-    let of_a = better_on_run(x, y, ring, kink, a, 0, best);
-    better_on_run(x, y, ring, kink, b, a.edges, of_a)
+    better_on_run(x, y, ring, kink, key, b, a.edges, of_a)
 }
 
 // The best pair with all points of a run, its end included.
@@ -142,8 +173,9 @@ fn with_run(x: &[i32], y: &[i32], ring: &[u16], run: Run, a: Run, b: Run, start:
         let next = at.next();
         let after = point_of(x, y, ring, next);
         // A kink would shorten the loop if it were taken out: a corner or a turning back. It is not strictly between its neighbours on a line.
-        let counts = !is_inside(before, after, here);
-        best = with_kink(x, y, ring, at, counts, a, b, best);
+        if !is_inside(before, after, here) {
+            best = with_kink(x, y, ring, at, a, b, best);
+        }
         before = here;
         here = after;
         at = next;

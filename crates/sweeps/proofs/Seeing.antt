@@ -28,6 +28,10 @@ and-false : (t : Bool) → (t && false) ≡ false
 and-false true = refl
 and-false false = refl
 
+and-true : (t : Bool) → (t && true) ≡ t
+and-true true = refl
+and-true false = refl
+
 -- ---- the ends of two edges
 low : {n : ℕ} {e : Edge} → Proper n e → e .lo < n
 low p = omega (arith, p .up, p .top)
@@ -49,6 +53,11 @@ module _ {x y : List ℤ} {e f : Edge} (a : Among x y e f) where
   pub wanted-is : (b : Bool) {r : Bool} → asked b e f ≡ true → r ≡ meetE (points x y) e f → r ≡ wanted (points x y) b e f
   wanted-is true t h = h ∙ comm ∙ sym (ap (λ (k : Bool). k && meetE (points x y) f e) t)
   wanted-is false t h = h ∙ sym (ap (λ (k : Bool). k && meetE (points x y) e f) t)
+
+  -- an edge that meets makes one where it is asked
+  pub met-asked : (b : Bool) {r : Bool} → r ≡ asked b e f → true ≡ meetE (points x y) e f → r ≡ wanted (points x y) b e f
+  met-asked true h t = h ∙ sym (and-true (asked true e f)) ∙ ap (λ (k : Bool). asked true e f && k) (t ∙ comm)
+  met-asked false h t = h ∙ sym (and-true (asked false e f)) ∙ ap (λ (k : Bool). asked false e f && k) t
 
   -- and none where it does not
   pub unmet : (b : Bool) → false ≡ meetE (points x y) e f → false ≡ wanted (points x y) b e f

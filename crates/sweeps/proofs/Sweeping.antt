@@ -54,7 +54,7 @@ two b = omega (arith, b .three)
 
 -- ---- what is carried along the ring
 sees-itself : {pt : ℕ → Point} {e : Edge} {v : ℕ} {s : Seen} → Sees pt e v s → Sees pt e (s .id .0) s
-sees-itself {pt} {e} z = record { number = refl; place = z .place ∙ sym (ap pt (z .number)); order = z .order ∙ sym (ap (λ v. orderKey (pt v)) (z .number)); side = z .side ∙ sym (ap (turnTo pt e) (z .number)) }
+sees-itself {pt} {e} z = record { number = refl; order = z .order ∙ sym (ap (λ v. orderKey (pt v)) (z .number)); side = z .side ∙ sym (ap (turnTo pt e) (z .number)) }
 
 -- the point after position i, where that is not the last
 pub sees-on : (n : ℕ) {pt : ℕ → Point} (r : List ℕ) {e : Edge} {s : Seen} (i : ℕ) → Sees pt e (at r (next n i)) s → i + 1 < n → Sees pt e (at r (i + 1)) s

@@ -34,7 +34,6 @@ turnTo pt e v = turn (pt (e .lo)) (pt (e .hi)) (pt v)
 -- s is the point v as it is seen from the edge e
 pub record Sees (pt : ℕ → Point) (e : Edge) (v : ℕ) (s : Seen) : Type 0 where
   pub number : s .id .0 ≡ v
-  pub place : spot (s .at) ≡ pt v
   pub order : s .key ≡ orderKey (pt v)
   pub side : s .turn ≡ turnTo pt e v
 

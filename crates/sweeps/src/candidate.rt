@@ -1,7 +1,5 @@
 // What makes an edge and an edge of the ring a record.
 ghost use mathlib.Core.Path.{_≡_};
-ghost use mathlib.Core.List.{List};
-ghost use lib.IntN.{ℤ};
 ghost use Rattle.geometry.specs.Lent.{points};
 ghost use Rattle.index_edge.specs.Edge.{edge as edgeBetween};
 ghost use Rattle.index_edge.specs.Number.{edgeOf};
@@ -10,13 +8,17 @@ ghost use Rattle.sweeps.specs.Sweep.{asked, firstOf, secondOf, wanted};
 use super::intersects::Seen;
 use super::intersects::Segment;
 use super::intersects::intersects;
+use super::intersects::overlaps;
+use geometry::line_segment::is_zero;
 use geometry::line_segment::same_side;
 use index_edge::IndexEdge;
+use index_edge::PointId;
 
-// In a move every other edge is asked whether it meets, at the start every greater one.
-fn is_asked(moves: bool, edge: IndexEdge, other: IndexEdge) -> bool
-    ensures { λ r. ⌜ r ≡ asked moves (edgeOf edge) (edgeOf other) ⌝ }
+// In a move every other edge is asked whether it meets, at the start every greater one: here that from one point to the next.
+fn is_asked(moves: bool, edge: IndexEdge, from: PointId, to: PointId) -> bool
+    ensures { λ r. ⌜ r ≡ asked moves (edgeOf edge) (edgeBetween (from .0) (to .0)) ⌝ }
 {
+    let other = IndexEdge::new(from, to);
     if moves {
         !other.eq(edge)
     } else {
@@ -24,18 +26,25 @@ fn is_asked(moves: bool, edge: IndexEdge, other: IndexEdge) -> bool
     }
 }
 
-// The edge and the other, which goes from one of these points to the next, make a record. Mostly both points lie on one side of it.
-fn is_wanted(moves: bool, a: Segment, other: IndexEdge, from: Seen, to: Seen) -> bool
-    requires { ⌜ (edgeOf other ≡ edgeBetween (from .id .0) (to .id .0)) × ((x y : List ℤ) × Sight x y a from to) ⌝ }
-    ensures { λ r. ⌜ ((x y : List ℤ) → Sight x y a from to → r ≡ wanted (points x y) moves (edgeOf (a .edge)) (edgeBetween (from .id .0) (to .id .0))) ⌝ }
+// The edge and the other, which goes from one of these points to the next, make a record. What tells most others at once is asked first: on one line the
+// order of the ends, else that both points lie on one side.
+fn is_wanted(moves: bool, x: &[i32], y: &[i32], a: Segment, from: Seen, to: Seen) -> bool
+    requires { ⌜ Sight (now x) (now y) a from to ⌝ }
+    ensures { λ r. ⌜ r ≡ wanted (points (now (x .entry)) (now (y .entry))) moves (edgeOf (a .edge)) (edgeBetween (from .id .0) (to .id .0)) ⌝ }
 {
+    if is_zero(from.turn) & is_zero(to.turn) {
+        if !overlaps(a, from, to) {
+            return false;
+        }
+        return is_asked(moves, a.edge, from.id, to.id);
+    }
     if same_side(from.turn, to.turn) {
         return false;
     }
-    if !is_asked(moves, a.edge, other) {
+    if !is_asked(moves, a.edge, from.id, to.id) {
         return false;
     }
-    intersects(a, from, to)
+    intersects(x, y, a, from, to)
 }
 
 // Two edges in the order in which they are pushed, and whether they are.
@@ -46,13 +55,20 @@ pub struct Candidate {
 }
 
 // What an edge and the ring's edge from one point to the next make, in a move or at the start.
-pub fn candidate_between(moves: bool, a: Segment, from: Seen, to: Seen) -> Candidate
-    requires { ⌜ ((x y : List ℤ) × Sight x y a from to) ⌝ }
-    ensures { λ r. ⌜ (edgeOf (r .first) ≡ firstOf moves (edgeOf (a .edge)) (edgeBetween (from .id .0) (to .id .0))) × (edgeOf (r .second) ≡ secondOf moves (edgeOf (a .edge)) (edgeBetween (from .id .0) (to .id .0))) × ((x y : List ℤ) → Sight x y a from to → r .ok ≡ wanted (points x y) moves (edgeOf (a .edge)) (edgeBetween (from .id .0) (to .id .0))) ⌝ }
+pub fn candidate_between(
+    moves: bool,
+    x: &[i32],
+    y: &[i32],
+    a: Segment,
+    from: Seen,
+    to: Seen,
+) -> Candidate
+    requires { ⌜ Sight (now x) (now y) a from to ⌝ }
+    ensures { λ r. ⌜ (edgeOf (r .first) ≡ firstOf moves (edgeOf (a .edge)) (edgeBetween (from .id .0) (to .id .0))) × (edgeOf (r .second) ≡ secondOf moves (edgeOf (a .edge)) (edgeBetween (from .id .0) (to .id .0))) × (r .ok ≡ wanted (points (now (x .entry)) (now (y .entry))) moves (edgeOf (a .edge)) (edgeBetween (from .id .0) (to .id .0))) ⌝ }
 {
     let edge = a.edge;
+    let ok = is_wanted(moves, x, y, a, from, to);
     let other = IndexEdge::new(from.id, to.id);
-    let ok = is_wanted(moves, a, other, from, to);
     if moves {
         Candidate {
             first: other,

@@ -26,9 +26,6 @@ use geometry::point::order_key;
 use geometry::point::point_at;
 use index_edge::IndexEdge;
 use index_edge::PointId;
-use polygon::polygon::position_to_point_id;
-use polygon::position::Position;
-use polygon::position::PositionId;
 
 // An edge with the points where it ends, and the order keys of the lesser and the greater of them.
 pub struct Segment {
@@ -54,39 +51,32 @@ pub fn segment_of(x: &[i32], y: &[i32], edge: IndexEdge) -> Segment
     }
 }
 
-// A point of the ring, its order key, and how an edge turns to it.
+// A point of the ring by its number, its order key, and how an edge turns to it.
 pub struct Seen {
     pub id: PointId,
-    pub at: Point,
     pub key: i64,
     pub turn: i64,
 }
 
-// The point at a position.
-fn seen_at(x: &[i32], y: &[i32], ring: &[u16], a: Segment, at: Position) -> Seen
-    requires { ⌜ Lent (at .size) (now x) (now y) × IsRing (at .size) (now ring) × (at .id .0 < at .size) × Proper (at .size) (edgeOf (a .edge)) × Spans (points (now x) (now y)) a ⌝ }
-    ensures { λ r. ⌜ Sees (points (now (x .entry)) (now (y .entry))) (edgeOf (a .edge)) (entry (now (ring .entry)) (at .id .0)) r ⌝ }
+// A point as an edge sees it.
+fn see(x: &[i32], y: &[i32], a: Segment, id: PointId) -> Seen
+    requires { ⌜ Here (now x) (now y) (id .0) × Here (now x) (now y) (a .edge .min .0) × Here (now x) (now y) (a .edge .max .0) × Spans (points (now x) (now y)) a ⌝ }
+    ensures { λ r. ⌜ Sees (points (now (x .entry)) (now (y .entry))) (edgeOf (a .edge)) (id .0) r ⌝ }
 {
-    let id = position_to_point_id(ring, at.id);
     let v = point_at(x, y, id.0 as usize);
     Seen {
         id: id,
-        at: v,
         key: order_key(v),
         turn: turn_of(a.min, a.max, v),
     }
 }
 
-// The first point of a ring of n.
-pub fn seen_first(n: usize, x: &[i32], y: &[i32], ring: &[u16], a: Segment) -> Seen
-    requires { ⌜ Lent n (now x) (now y) × IsRing n (now ring) × (0 < n) × Proper n (edgeOf (a .edge)) × Spans (points (now x) (now y)) a ⌝ }
-    ensures { λ r. ⌜ Sees (points (now (x .entry)) (now (y .entry))) (edgeOf (a .edge)) (entry (now (ring .entry)) 0) r ⌝ }
+// The place after i on a ring of n.
+fn next_place(n: usize, i: usize) -> usize
+    requires { ⌜ i < n ⌝ }
+    ensures { λ r. ⌜ r ≡ next n i ⌝ }
 {
-    let first = Position {
-        id: PositionId(0),
-        size: n as u16,
-    };
-    seen_at(x, y, ring, a, first)
+    if i + 1 == n { 0 } else { i + 1 }
 }
 
 // The point after position i.
@@ -94,11 +84,16 @@ pub fn seen_after(n: usize, x: &[i32], y: &[i32], ring: &[u16], a: Segment, i: u
     requires { ⌜ Lent n (now x) (now y) × IsRing n (now ring) × (i < n) × Proper n (edgeOf (a .edge)) × Spans (points (now x) (now y)) a ⌝ }
     ensures { λ r. ⌜ Sees (points (now (x .entry)) (now (y .entry))) (edgeOf (a .edge)) (entry (now (ring .entry)) (next n i)) r ⌝ }
 {
-    let at = Position {
-        id: PositionId(i as u16),
-        size: n as u16,
-    };
-    seen_at(x, y, ring, a, at.next())
+    let at = next_place(n, i);
+    see(x, y, a, PointId(ring[at]))
+}
+
+// The first point of a ring of n comes after the last.
+pub fn seen_first(n: usize, x: &[i32], y: &[i32], ring: &[u16], a: Segment) -> Seen
+    requires { ⌜ Lent n (now x) (now y) × IsRing n (now ring) × (0 < n) × Proper n (edgeOf (a .edge)) × Spans (points (now x) (now y)) a ⌝ }
+    ensures { λ r. ⌜ Sees (points (now (x .entry)) (now (y .entry))) (edgeOf (a .edge)) (entry (now (ring .entry)) 0) r ⌝ }
+{
+    seen_after(n, x, y, ring, a, n - 1)
 }
 
 // An end of an edge: point number a, which stands at t. It is open if it ends the edge from b to c, too.
@@ -120,24 +115,26 @@ fn keys_overlap(low: i64, high: i64, c: i64, d: i64) -> bool
 }
 
 // All four points are on one line: the order of the ends decides.
-fn overlaps(a: Segment, from: Seen, to: Seen) -> bool
+pub fn overlaps(a: Segment, from: Seen, to: Seen) -> bool
     requires { ⌜ ((x y : List ℤ) × Sight x y a from to) ⌝ }
     ensures { λ r. ⌜ ((x y : List ℤ) → Sight x y a from to → r ≡ overlap (points x y (a .edge .min .0)) (points x y (a .edge .max .0)) (points x y (from .id .0)) (points x y (to .id .0))) ⌝ }
 {
     keys_overlap(a.low, a.high, from.key, to.key)
 }
 
-// The edge meets that from one point to another, an end that they share left out.
-pub fn intersects(a: Segment, from: Seen, to: Seen) -> bool
-    requires { ⌜ ((x y : List ℤ) × Sight x y a from to) ⌝ }
-    ensures { λ r. ⌜ ((x y : List ℤ) → Sight x y a from to → r ≡ meetE (points x y) (edgeOf (a .edge)) (edgeBetween (from .id .0) (to .id .0))) ⌝ }
+// The edge meets that from one point to another, an end that they share left out. Where they lie is read again: most edges are told without it.
+pub fn intersects(x: &[i32], y: &[i32], a: Segment, from: Seen, to: Seen) -> bool
+    requires { ⌜ Sight (now x) (now y) a from to ⌝ }
+    ensures { λ r. ⌜ r ≡ meetE (points (now (x .entry)) (now (y .entry))) (edgeOf (a .edge)) (edgeBetween (from .id .0) (to .id .0)) ⌝ }
 {
     if is_zero(from.turn) & is_zero(to.turn) {
         return overlaps(a, from, to);
     }
+    let b1 = point_at(x, y, from.id.0 as usize);
+    let b2 = point_at(x, y, to.id.0 as usize);
     let a_min = endpoint(a.edge.min, from.id, to.id, a.min);
     let a_max = endpoint(a.edge.max, from.id, to.id, a.max);
-    let b_from = endpoint(from.id, a.edge.min, a.edge.max, from.at);
-    let b_to = endpoint(to.id, a.edge.min, a.edge.max, to.at);
+    let b_from = endpoint(from.id, a.edge.min, a.edge.max, b1);
+    let b_to = endpoint(to.id, a.edge.min, a.edge.max, b2);
     intersect(a_min, a_max, b_from, b_to, from.turn, to.turn)
 }

@@ -57,7 +57,7 @@ pub fn sweep(
     let mut i: usize = 0;
     while i < n {
         let to = seen_after(n, x, y, ring, a, i);
-        let pair = candidate_between(moves, a, from, to);
+        let pair = candidate_between(moves, x, y, a, from, to);
         from = to;
         let first = pair.first;
         let second = pair.second;

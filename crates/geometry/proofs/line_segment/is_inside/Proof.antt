@@ -1,10 +1,11 @@
--- `is_inside` meets its contract: its parts are those of the definition, in another order.
-use mathlib.Core.Path.{_≡_, refl, sym, _∙_, ap, ap₂}
+-- `is_inside` meets its contract: its parts are those of the definition, in another order, and the keys order as the points do.
+use mathlib.Core.Path.{_≡_, refl, sym, _∙_, ap}
 use mathlib.Core.Bool.{Bool, true, false, not, _&&_}
+use borrow.Author.Needs.{needs}
 use Rattle.geometry.specs.Plane.{isZero, ltP, minP, maxP, collinear}
 use Rattle.geometry.specs.Lent.{spot}
 use Rattle.geometry.proofs.Reading.{read-64}
-use borrow.Author.Needs.{needs}
+use Rattle.geometry.proofs.Ordering.{between-by}
 use Rattle.geometry.proofs.line_segment.is_inside.Statement.{statement}
 use Rattle.geometry.proofs.line_segment.is_inside.Tie as tie
 
@@ -19,22 +20,27 @@ in-order true false e = e
 in-order false o e = refl
 
 -- strictly between the ends in point order, as it is defined
-order-is : (c : tie.After-is-less2) → let s = c .before .before .before .before .args in (c .before .before .is-less .result && c .is-less2 .result) ≡ (ltP (minP (spot (s .a)) (spot (s .b))) (spot (s .v)) && ltP (spot (s .v)) (maxP (spot (s .a)) (spot (s .b))))
+order-is : (c : tie.After-keys-between) → let s = c .before .before .before .before .args in c .keys-between .result ≡ (ltP (minP (spot (s .a)) (spot (s .b))) (spot (s .v)) && ltP (spot (s .v)) (maxP (spot (s .a)) (spot (s .b))))
 order-is c =
-    let v = spot (c .before .before .before .before .args .v) in
-    ap₂ _&&_ (c .before .before .is-less .ensures ∙ ap (λ m. ltP m v) (c .before .before .before .lesser .ensures)) (c .is-less2 .ensures ∙ ap (ltP v) (c .before .greater .ensures))
+    let s = c .before .before .before .before .args in
+    let p = c .before .before .before .before .pre in
+    between-by (spot (s .a)) (spot (s .b)) (spot (s .v)) (p .0) (p .1) (p .2)
+    (read-64 (c .before .before .before .order-key .ok) (c .before .before .before .order-key .ensures))
+    (read-64 (c .before .before .order-key2 .ok) (c .before .before .order-key2 .ensures))
+    (read-64 (c .before .order-key3 .ok) (c .before .order-key3 .ensures))
+    (c .keys-between .ensures)
 
-lesser-requires : tie.Need-lesser-requires
-lesser-requires c κs = search needs
+order-key-requires : tie.Need-order-key-requires
+order-key-requires c κs = search needs
 
-is-less-requires : tie.Need-is-less-requires
-is-less-requires c κs = search needs
+order-key-requires-2 : tie.Need-order-key-requires-2
+order-key-requires-2 c κs = search needs
 
-greater-requires : tie.Need-greater-requires
-greater-requires c κs = search needs
+order-key-requires-3 : tie.Need-order-key-requires-3
+order-key-requires-3 c κs = search needs
 
-is-less-requires-2 : tie.Need-is-less-requires-2
-is-less-requires-2 c κs = search needs
+keys-between-requires : tie.Need-keys-between-requires
+keys-between-requires c κs = search needs
 
 returns : tie.Need-returns
 returns c =
@@ -57,10 +63,10 @@ pub is-inside-spec : {M : Type 1} → statement M
 is-inside-spec =
     tie.close
     (tie.spec
-    lesser-requires
-    is-less-requires
-    greater-requires
-    is-less-requires-2
+    order-key-requires
+    order-key-requires-2
+    order-key-requires-3
+    keys-between-requires
     returns
     turn-of-requires
     is-zero-requires

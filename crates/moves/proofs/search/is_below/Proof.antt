@@ -1,30 +1,26 @@
--- `is_below` meets its contract: its numbers are those of the two points.
-use mathlib.Core.Path.{_∙_}
+-- `is_below` meets its contract: the keys order as the points do.
+use mathlib.Core.Path.{refl, _∙_, ap₂}
 use denote.Ref.{now}
 use borrow.Author.Needs.{needs}
-use Rattle.geometry.specs.Plane.{ltP}
+use lib.Signed.{ltZ}
 use Rattle.geometry.specs.Lent.{points}
-use Rattle.moves.proofs.RingPositions.{stands, second-ring}
+use Rattle.geometry.proofs.Reading.{read-64, read-given}
+use Rattle.geometry.proofs.Ordering.{key-lt}
+use Rattle.machine.specs.Board.{ptAt}
+use Rattle.moves.proofs.Carried.{in-ring}
 use Rattle.moves.proofs.search.is_below.Statement.{statement}
 use Rattle.moves.proofs.search.is_below.Tie as tie
 
-number-at-requires : tie.Need-number-at-requires
-number-at-requires c κs = second-ring (c .before .pre .0 .ring) (c .before .pre .1)
-
-number-at-requires-2 : tie.Need-number-at-requires-2
-number-at-requires-2 c κs = search needs
-
-less-at-requires : tie.Need-less-at-requires
-less-at-requires c κs =
-    let p = c .before .before .before .pre in
-    (stands (p .0) (p .1 .second) (c .before .number-at .ensures), stands (p .0) (p .1 .first) (c .number-at2 .ensures))
+key-at-requires : tie.Need-key-at-requires
+key-at-requires c κs = search needs
 
 returns : tie.Need-returns
 returns c =
-    let a = c .before .before .before .before .args in
-    c .less-at .ensures
-    ∙ (λ t. ltP (points (now (a .x)) (now (a .y)) (c .before .before .number-at .ensures t)) (points (now (a .x)) (now (a .y)) (c .before .number-at2 .ensures t)))
+    let s = c .before .before .args in
+    let p = c .before .before .pre in
+    λ v h e.
+    ap₂ ltZ (read-64 (c .key-at .ok) (c .key-at .ensures)) (read-given (c .before .before .fits .key) e)
+    ∙ key-lt (ptAt (points (now (s .x)) (now (s .y))) (now (s .ring)) (s .at .id .0)) v (in-ring (p .0) (p .1) refl) h
 
 pub is-below-spec : {M : Type 1} → statement M
-is-below-spec =
-    tie.close (tie.spec number-at-requires number-at-requires-2 less-at-requires returns)
+is-below-spec = tie.close (tie.spec key-at-requires returns)

@@ -14,8 +14,8 @@ returns c =
     overlap-by (s .from .id .0) (s .to .id .0) (v .among)
     (read-64 (c .before .before .before .before .struct-told .given .1 .1 .1 .0 .1) (v .spans .least))
     (read-64 (c .before .before .before .struct-told2 .given .1 .1 .1 .1 .0 .1) (v .spans .greatest))
-    (read-64 (c .before .before .struct-told3 .given .1 .1 .0 .1) (v .first .order))
-    (read-64 (c .before .struct-told4 .given .1 .1 .0 .1) (v .second .order))
+    (read-64 (c .before .before .struct-told3 .given .1 .0 .1) (v .first .order))
+    (read-64 (c .before .struct-told4 .given .1 .0 .1) (v .second .order))
     (c .keys-overlap .ensures)
 
 pub overlaps-spec : {M : Type 1} → statement M

@@ -63,7 +63,7 @@ sight-now c =
     sight (p .0) (p .1) (p .2) (proper-a (c .before .before)) (c .before .loop-test .taken) (c .before .before .before .before .segment-of .ensures .1) (c .before .before .loop .inv .3 (c .before .loop-test .taken)) (c .seen-after .ensures)
 
 candidate-between-requires : tie.Need-candidate-between-requires Inv-loop μ-loop
-candidate-between-requires c κs = let s = c .before .before .before .before .before .before .before .before .before .before .before .before .args in (now (s .x), now (s .y), sight-now c)
+candidate-between-requires c κs = sight-now c
 
 -- the store after the edges before i
 abbrev so-far : tie.At-loop Inv-loop μ-loop → Store → Store
@@ -76,7 +76,7 @@ pair-is c =
     let e = edgeOf (c .before .before .before .before .before .segment-of .result .edge) in
     let g = c .candidate-between .ensures in
     let z = edge-is (s .n) (now (s .ring)) (c .before .before .before .loop .i) (c .before .before .before .loop .inv .3 (c .before .before .loop-test .taken) .number) (c .before .seen-after .ensures .number) in
-    (g .0 ∙ ap (λ (f : Edge). firstOf (s .moves) e f) z, g .1 ∙ ap (λ (f : Edge). secondOf (s .moves) e f) z, g .2 (now (s .x)) (now (s .y)) (sight-now (c .before)) ∙ ap (λ (f : Edge). wanted (points (now (s .x)) (now (s .y))) (s .moves) e f) z)
+    (g .0 ∙ ap (λ (f : Edge). firstOf (s .moves) e f) z, g .1 ∙ ap (λ (f : Edge). secondOf (s .moves) e f) z, g .2 ∙ ap (λ (f : Edge). wanted (points (now (s .x)) (now (s .y))) (s .moves) e f) z)
 
 -- this turn's push is allowed
 may : (c : tie.After-candidate-between Inv-loop μ-loop) (u : Store) → let s = c .before .before .before .before .before .before .before .before .before .before .before .before .before .args in Fits (s .n) (points (now (s .x)) (now (s .y))) (now (s .ring)) (s .moves) (edgeOf (c .before .before .before .before .before .segment-of .result .edge)) u → c .candidate-between .result .ok ≡ true → MayPush (s .n) (edgeOf (c .candidate-between .result .first)) (edgeOf (c .candidate-between .result .second)) (so-far (c .before .before .before) u)
