@@ -26,6 +26,7 @@ use geometry::point::order_key;
 use geometry::point::point_at;
 use index_edge::IndexEdge;
 use index_edge::PointId;
+use polygon::position::next_place;
 
 // An edge with the points where it ends, and the order keys of the lesser and the greater of them.
 pub struct Segment {
@@ -69,14 +70,6 @@ fn see(x: &[i32], y: &[i32], a: Segment, id: PointId) -> Seen
         key: order_key(v),
         turn: turn_of(a.min, a.max, v),
     }
-}
-
-// The place after i on a ring of n.
-fn next_place(n: usize, i: usize) -> usize
-    requires { ⌜ i < n ⌝ }
-    ensures { λ r. ⌜ r ≡ next n i ⌝ }
-{
-    if i + 1 == n { 0 } else { i + 1 }
 }
 
 // The point after position i.
