@@ -1,6 +1,6 @@
 -- The checks in the order of the code are those of the definition.
 use mathlib.Core.Path.{_≡_, refl, sym, ap, _∙_}
-use mathlib.Core.Bool.{Bool, true, false, not, _||_, cond}
+use mathlib.Core.Bool.{Bool, true, false, not, cond}
 use mathlib.Core.List.{List}
 use Prim.Native.Nat.{ℕ, _-_, _≤_, _<_}
 use native.Mathlib.Omega.{arith}
@@ -18,10 +18,6 @@ use Rattle.polygon.proofs.EachOnce.{ring-each}
 use Rattle.machine.specs.Board.{straightLine}
 use Rattle.machine.specs.Answer.{inRange, noneAlike, refusal}
 use Rattle.checks.specs.Checks.{early, late}
-
-pub or-false : (b : Bool) → (b || false) ≡ b
-or-false true = refl
-or-false false = refl
 
 -- a part that starts at 0
 pub from-start : (n : ℕ) → n - 0 ≡ n

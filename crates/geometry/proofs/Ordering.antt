@@ -1,6 +1,6 @@
 -- Points by a number that orders them, and segments on one line by the order of their ends.
 use mathlib.Core.Path.{_≡_, refl, sym, _∙_, ap, ap₂}
-use mathlib.Core.Bool.{Bool, true, false, _&&_, _||_, or-comm}
+use mathlib.Core.Bool.{Bool, true, false, _&&_, _||_, or-comm, or-false, and-true}
 use mathlib.Core.Logic.{_⊎_, _≢_}
 use Prim.Native.Nat.{_+_, _*_, _≤_}
 use native.Mathlib.Omega.{arith}
@@ -53,10 +53,6 @@ module _ (a b : Point) (ha : InRange a) (hb : InRange b) where
 not-round : (p q s : Point) → ltP p s ≡ false → (ltP p q && ltP q s) ≡ false
 not-round p q s f = both (true-or-false (ltP p q && ltP q s)) (λ h. never (ltP p s) (ltP-trans p q s (and-left (ltP p q) (ltP q s) h) (and-right (ltP p q) (ltP q s) h)) f) (λ h. h)
 
-or-false : (t : Bool) → (t || false) ≡ t
-or-false true = refl
-or-false false = refl
-
 -- strictly between two points, in either direction
 between-is : (a b v : Point) → ((ltP a v && ltP v b) || (ltP b v && ltP v a)) ≡ (ltP (minP a b) v && ltP v (maxP a b))
 between-is a b v =
@@ -71,10 +67,6 @@ between-by a b v ha hb hv ea eb ev er =
     er ∙ (λ t. (ltZ (ea t) (ev t) && ltZ (ev t) (eb t)) || (ltZ (eb t) (ev t) && ltZ (ev t) (ea t)))
     ∙ (λ t. (key-lt a v ha hv t && key-lt v b hv hb t) || (key-lt b v hb hv t && key-lt v a hv ha t))
     ∙ between-is a b v
-
-and-true : (t : Bool) → (t && true) ≡ t
-and-true true = refl
-and-true false = refl
 
 -- from l to h, and from c to d
 in-order : (l h c d : Point) → ltP l h ≡ true → ltP c d ≡ true → ltP (maxP l c) (minP h d) ≡ ((ltP l c || ltP l d) && (ltP c h || ltP d h))

@@ -1,6 +1,6 @@
 -- What is seen of two ring points from an edge tells whether it meets the edge between them.
-use mathlib.Core.Path.{_≡_, refl, sym, ap, ap₂, _∙_}
-use mathlib.Core.Bool.{Bool, true, false, _&&_, _||_, cond}
+use mathlib.Core.Path.{_≡_, sym, ap, ap₂, _∙_}
+use mathlib.Core.Bool.{Bool, true, false, _&&_, _||_, cond, and-false, and-true}
 use mathlib.Core.List.{List}
 use mathlib.Core.Logic.{_≢_}
 use Prim.Native.Nat.{ℕ, _<_}
@@ -23,14 +23,6 @@ use Rattle.machine.specs.Board.{meetE}
 use Rattle.machine.proofs.EdgesMeet.{meetE-comm}
 use Rattle.sweeps.specs.Sight.{Among, turnTo}
 use Rattle.sweeps.specs.Sweep.{asked, wanted}
-
-and-false : (t : Bool) → (t && false) ≡ false
-and-false true = refl
-and-false false = refl
-
-and-true : (t : Bool) → (t && true) ≡ t
-and-true true = refl
-and-true false = refl
 
 -- ---- the ends of two edges
 low : {n : ℕ} {e : Edge} → Proper n e → e .lo < n

@@ -64,7 +64,10 @@ pub fn candidate_between(
     to: Seen,
 ) -> Candidate
     requires { ⌜ Sight (now x) (now y) a from to ⌝ }
-    ensures { λ r. ⌜ (edgeOf (r .first) ≡ firstOf moves (edgeOf (a .edge)) (edgeBetween (from .id .0) (to .id .0))) × (edgeOf (r .second) ≡ secondOf moves (edgeOf (a .edge)) (edgeBetween (from .id .0) (to .id .0))) × (r .ok ≡ wanted (points (now (x .entry)) (now (y .entry))) moves (edgeOf (a .edge)) (edgeBetween (from .id .0) (to .id .0))) ⌝ }
+    ensures { λ r.
+        let e = edgeOf (a .edge) in
+        let f = edgeBetween (from .id .0) (to .id .0) in
+        ⌜ (edgeOf (r .first) ≡ firstOf moves e f) × (edgeOf (r .second) ≡ secondOf moves e f) × (r .ok ≡ wanted (points (now (x .entry)) (now (y .entry))) moves e f) ⌝ }
 {
     let edge = a.edge;
     let ok = is_wanted(moves, x, y, a, from, to);

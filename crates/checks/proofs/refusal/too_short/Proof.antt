@@ -1,10 +1,10 @@
 -- `too_short` meets its contract: the tests are those of the definition.
+use mathlib.Core.Bool.{or-false}
 use mathlib.Core.Path.{refl}
 use Prim.Native.Nat.{_-_, _*_}
 use lib.Dec.{ltb}
 use native.Mathlib.Omega.{arith}
 use borrow.Author.Needs.{needs}
-use Rattle.checks.proofs.Checking.{or-false}
 use Rattle.checks.proofs.refusal.too_short.Statement.{statement}
 use Rattle.checks.proofs.refusal.too_short.Tie as tie
 
