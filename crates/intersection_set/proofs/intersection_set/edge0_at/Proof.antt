@@ -1,3 +1,4 @@
+-- `edge0_at` meets its contract: the two low parts of the word are the first edge.
 use mathlib.Core.Path.{sym, ap, _∙_}
 use Rattle.intersection_set.specs.Pool.{Pair, pairOf}
 use denote.Ref.{now}

@@ -1,3 +1,4 @@
+-- `edge1_at` meets its contract: the two high parts of the word are the second edge.
 use mathlib.Core.Path.{sym, ap, _∙_}
 use Rattle.intersection_set.specs.Pool.{Pair, pairOf}
 use denote.Ref.{now}

@@ -1,3 +1,4 @@
+-- `put_record` meets its contract: two words are stored, packed of the numbers that the lists then have.
 use mathlib.Core.Path.{ap, _∙_}
 use Prim.Native.Nat.{ℕ}
 use native.Mathlib.Omega.{arith}

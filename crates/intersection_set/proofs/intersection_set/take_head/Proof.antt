@@ -1,3 +1,4 @@
+-- `take_head` meets its contract: one entry is read and stored.
 use mathlib.Core.Path.{ap}
 use Prim.Native.Nat.{ℕ}
 use denote.Ref.{now}
