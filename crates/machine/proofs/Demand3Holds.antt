@@ -1,6 +1,6 @@
 -- Demand 3 holds: for runs from any state whose record is exact, and so for those from the start.
 use mathlib.Core.Path.{_≡_, refl, _∙_, ap, sym}
-use mathlib.Core.Bool.{Bool, true, false, not, _&&_, _||_, cond}
+use mathlib.Core.Bool.{Bool, true, false, not, _&&_, cond}
 use mathlib.Core.List.{List, [], _∷_}
 use mathlib.Core.Logic.{_≢_, _↔_, inl, inr}
 use Prim.Native.Nat.{ℕ, _*_, _<_}
@@ -10,7 +10,7 @@ use borrow.Author.Tests.{eq-eqb, ne-eqb}
 use Rattle.geometry.specs.Plane.{Point}
 use Rattle.index_edge.specs.Edge.{Edge, eqE, ltE, memberE}
 use Rattle.intersection_set.specs.Store.{Rec, counted}
-use Rattle.machine.specs.Machine.{State, Laid, Traced, sameHoist, doubled, nothingTwice, start, begin, runW, after, fresh}
+use Rattle.machine.specs.Machine.{State, Traced, doubled, nothingTwice, start, begin, runW, after, fresh}
 use Rattle.polygon.specs.Ring.{at, IsRing}
 use Rattle.polygon.specs.Edges.{edges, IsEdge}
 use Rattle.machine.specs.Board.{meetE, Board}
@@ -140,11 +140,6 @@ module _ (n : ℕ) (pt : ℕ → Point) (board : Board n pt) where
       moves = moves-from n pt w board picks was cs t₀ inv₀;
     }
 
-  -- before the first move nothing is named twice, so what is doubled is what one hoist laid
-  doubled-hoist : (e f : Edge) (g : List Laid) → doubled nothingTwice e f g ≡ sameHoist e f g
-  doubled-hoist e f [] = refl
-  doubled-hoist e f (m ∷ g) = ap (λ (b : Bool). cond (memberE e (m .news) || memberE f (m .news)) (m .hoisted && (memberE e (m .news) && memberE f (m .news))) b) (doubled-hoist e f g)
-
   -- ---- the demand: the run from the start
   module _ (w : ℕ → State → ℕ) (picks : Picks w) (cs r : List ℕ) (ring : IsRing n r) where
     whole : Onward n pt nothingTwice w cs (begin n pt r) (length (start n pt r .dense))
@@ -155,8 +150,8 @@ module _ (n : ℕ) (pt : ℕ → Point) (board : Board n pt) where
       searched = fresh-search r ring;
       searched-last = whole .searched;
       starts = record { each = λ e f p. start-is e f ∙ fresh-search r ring .each e f p; only = λ e f q. start-is e f ∙ fresh-search r ring .only e f q };
-      twice = λ e f p h. whole .twice e f p (doubled-hoist e f (after n pt w cs r .log) ∙ h);
-      once = λ e f p h. whole .once e f p (doubled-hoist e f (after n pt w cs r .log) ∙ h);
+      twice = whole .twice;
+      once = whole .once;
       only = whole .names .only;
       delivers = λ h. whole .delivers h ∙ ap (delivered (finish n pt (after n pt w cs r .now .ring)) (length (after n pt w cs r .log))) (start-count-is n pt r);
       withholds = whole .withholds;

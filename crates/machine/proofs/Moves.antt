@@ -14,7 +14,6 @@ use Rattle.index_edge.specs.Edge.{Edge}
 use Rattle.intersection_set.specs.Store.{Rec, counted}
 use Rattle.machine.specs.Machine.{State, Laid, Traced, doubled, nothingTwice, fresh, carried, step, runW, begin, planOf}
 use Rattle.machine.specs.Demand3.{MoveCount, Picks}
-use Rattle.machine.specs.Onward.{MovesFrom}
 use Rattle.polygon.specs.Ring.{IsRing}
 use Rattle.machine.specs.Board.{Board}
 use Rattle.index_edge.proofs.Edges.{eqE-refl}
@@ -96,8 +95,8 @@ module _ (n : ℕ) (pt : ℕ → Point) where
             later h i (suc j) u = i .2 .before j (omega arith)
 
     -- ---- the moves made, by fresh searches: there is only one such number
-    pub move-count-one : (cs r : List ℕ) (j k : ℕ) → MoveCount n pt w cs r j → MoveCount n pt w cs r k → j ≡ k
-    move-count-one cs r j k p q =
+    pub move-count-one : (cs : List ℕ) (t : Traced) (j k : ℕ) → MoveCount n pt w cs t j → MoveCount n pt w cs t k → j ≡ k
+    move-count-one cs t j k p q =
         order j k _ (λ h. absurd (q .before j h (p .then-none (omega arith)))) (λ h. h) (λ h. absurd (p .before k h (q .then-none (omega arith))))
       where
         order : (j k : ℕ) (P : Type 0) → (j < k → P) → (j ≡ k → P) → (k < j → P) → P
@@ -106,7 +105,7 @@ module _ (n : ℕ) (pt : ℕ → Point) where
 
     module _ (board : Board n pt) (picks : Picks w) where
       -- the moves made, by fresh searches, from any state whose record is exact
-      pub moves-from : (was : Edge → Edge → Bool) (cs : List ℕ) (t : Traced) → Inv n pt was t → (k : ℕ) × (length (runW n pt w cs t .log) ≡ length (t .log) + k) × MovesFrom n pt w cs t k
+      pub moves-from : (was : Edge → Edge → Bool) (cs : List ℕ) (t : Traced) → Inv n pt was t → (k : ℕ) × (length (runW n pt w cs t .log) ≡ length (t .log) + k) × MoveCount n pt w cs t k
       moves-from was cs t p =
           let i : (k : ℕ) × (length (runW n pt w cs t .log) ≡ length (t .log) + k) × MovesBy cs t k = moves-by cs t in
           let inv : (cs : List ℕ) → Inv n pt was (runW n pt w cs t) = λ cs. run-inv n pt was board w picks cs t p in (
@@ -119,11 +118,11 @@ module _ (n : ℕ) (pt : ℕ → Point) where
             },
           )
 
-      pub move-count : (cs r : List ℕ) → IsRing n r → MoveCount n pt w cs r (length (runW n pt w cs (begin n pt r) .log))
+      pub move-count : (cs r : List ℕ) → IsRing n r → MoveCount n pt w cs (begin n pt r) (length (runW n pt w cs (begin n pt r) .log))
       move-count cs r p =
           let i = moves-from nothingTwice cs (begin n pt r) (begin-inv n pt r p) in
           let e : i .0 ≡ length (runW n pt w cs (begin n pt r) .log) = omega (arith, i .1) in
-          subst (MoveCount n pt w cs r) e (record { within = i .2 .within; before = i .2 .before; then-none = i .2 .then-none })
+          subst (MoveCount n pt w cs (begin n pt r)) e (i .2)
 
   pub start-count-is : (r : List ℕ) → length (begin n pt r .now .store .dense) ≡ length (fresh n pt r)
   start-count-is r = start-length n pt r

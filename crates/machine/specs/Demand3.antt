@@ -15,7 +15,7 @@ use Rattle.polygon.specs.Ring.{IsRing, at, turnedRound}
 use Rattle.polygon.specs.Edges.{IsEdge}
 use Rattle.intersection_set.specs.Store.{Rec, counted}
 use Rattle.machine.specs.Board.{ptAt, turnAt}
-use Rattle.machine.specs.Machine.{State, Traced, sameHoist, start, after, fresh}
+use Rattle.machine.specs.Machine.{State, Traced, sameHoist, start, begin, runW, after, fresh}
 use Rattle.machine.specs.Answer.{delivered, unfinished, finish, answer}
 
 -- a choice of the dense place: where records are left it takes one of them
@@ -59,11 +59,11 @@ module _ (n : ℕ) (pt : ℕ → Point) where
     pub none : fresh n pt l ≡ []
 
   -- ---- the move count
-  -- k is the length of the shortest beginning of the list after which a fresh search finds none, else of the whole list
-  pub record MoveCount (w : ℕ → State → ℕ) (cs r : List ℕ) (k : ℕ) : Type 0 where
+  -- for a run from t, k is the length of the shortest beginning of the list after which a fresh search finds none, else of the whole list
+  pub record MoveCount (w : ℕ → State → ℕ) (cs : List ℕ) (t : Traced) (k : ℕ) : Type 0 where
     pub within : k ≤ length cs
-    pub before : (j : ℕ) → j < k → fresh n pt (after n pt w (take j cs) r .now .ring) ≡ [] → ⊥
-    pub then-none : k < length cs → fresh n pt (after n pt w (take k cs) r .now .ring) ≡ []
+    pub before : (j : ℕ) → j < k → fresh n pt (runW n pt w (take j cs) t .now .ring) ≡ [] → ⊥
+    pub then-none : k < length cs → fresh n pt (runW n pt w (take k cs) t .now .ring) ≡ []
 
   -- ---- the demand, for the picks cs from the ring r, with the choice w
   module _ (w : ℕ → State → ℕ) (cs r : List ℕ) where
@@ -101,4 +101,4 @@ module _ (n : ℕ) (pt : ℕ → Point) where
       -- every longer list with the same beginning delivers the same loop, move count and starting count
       pub longer : (more : List ℕ) → lastPairs ≡ [] → answer n pt r (after n pt w (cs ++ more) r) ≡ answer n pt r last
       -- the move count
-      pub moves : MoveCount w cs r (length (last .log))
+      pub moves : MoveCount w cs (begin n pt r) (length (last .log))

@@ -26,14 +26,7 @@ pub record Traced : Type 0 where
   pub now : State
   pub log : List Laid
 
--- One and the same hoist was the last move to lay each of e and f.
-abbrev pub sameHoist : Edge → Edge → List Laid → Bool
-sameHoist e f [] = false
-sameHoist e f (m ∷ l) =
-    let older = sameHoist e f l in
-    cond (memberE e (m .news) || memberE f (m .news)) (m .hoisted && (memberE e (m .news) && memberE f (m .news))) older
-
--- A pair that is named twice: as sameHoist says of the moves since some moment, and where none of them laid either edge, as `was` says of that moment.
+-- Of the moves since some moment one and the same hoist was the last to lay each of e and f; where none of them laid either, as `was` says of that moment.
 abbrev pub doubled : (Edge → Edge → Bool) → Edge → Edge → List Laid → Bool
 doubled was e f [] = was e f
 doubled was e f (m ∷ l) =
@@ -43,6 +36,10 @@ doubled was e f (m ∷ l) =
 -- nothing is named twice before the first move
 abbrev pub nothingTwice : Edge → Edge → Bool
 nothingTwice e f = false
+
+-- One and the same hoist was the last move to lay each of e and f.
+abbrev pub sameHoist : Edge → Edge → List Laid → Bool
+sameHoist e f l = doubled nothingTwice e f l
 
 -- ---- searching, over the board's points
 module _ (pt : ℕ → Point) where

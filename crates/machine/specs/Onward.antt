@@ -4,9 +4,9 @@ use mathlib.Core.Path.{_≡_}
 use mathlib.Core.Bool.{Bool, true, false}
 use mathlib.Core.List.{List, [], _++_}
 use mathlib.Core.Logic.{_⊎_}
-use Prim.Native.Nat.{ℕ, _+_, _-_, _*_, _≤_, _<_}
+use Prim.Native.Nat.{ℕ, _+_, _-_, _*_, _≤_}
 use lib.Dec.{ltb}
-use lib.ListN.{length, take}
+use lib.ListN.{length}
 use Rattle.geometry.specs.Plane.{Point}
 use Rattle.index_edge.specs.Edge.{Edge}
 use Rattle.polygon.specs.Ring.{IsRing}
@@ -14,7 +14,7 @@ use Rattle.intersection_set.specs.Store.{Rec, counted, grown}
 use Rattle.intersection_set.specs.Numbered.{Numbered}
 use Rattle.machine.specs.Machine.{State, Traced, doubled, runW, fresh}
 use Rattle.machine.specs.Answer.{delivered, unfinished, finish, answerFrom}
-use Rattle.machine.specs.Demand3.{Pair, Search, Loop}
+use Rattle.machine.specs.Demand3.{Pair, Search, Loop, MoveCount}
 
 -- a run from the state s, with no move made yet
 abbrev pub from : State → Traced
@@ -37,12 +37,6 @@ module _ (n : ℕ) (pt : ℕ → Point) where
     pub names : Names (s .ring) (s .store .dense)
     pub numbered : Numbered (s .store)
     pub room : grown (s .store) ≤ n * (n - 1)
-
-  -- the run from t with the picks cs makes k moves: k is the length of the shortest beginning of the list after which a fresh search finds none, else of the whole list
-  pub record MovesFrom (w : ℕ → State → ℕ) (cs : List ℕ) (t : Traced) (k : ℕ) : Type 0 where
-    pub within : k ≤ length cs
-    pub before : (j : ℕ) → j < k → fresh n pt (runW n pt w (take j cs) t .now .ring) ≡ [] → ⊥
-    pub then-none : k < length cs → fresh n pt (runW n pt w (take k cs) t .now .ring) ≡ []
 
   -- the run from t with the picks cs; `was` says which pairs t names twice, and k is the count that a delivered loop is answered with
   module _ (was : Edge → Edge → Bool) (w : ℕ → State → ℕ) (cs : List ℕ) (t : Traced) (k : ℕ) where
@@ -75,4 +69,4 @@ module _ (n : ℕ) (pt : ℕ → Point) where
       -- every longer list with the same beginning delivers the same
       pub longer : (more : List ℕ) → endPairs ≡ [] → answerFrom n pt k (runW n pt w (cs ++ more) t) ≡ answerFrom n pt k end
       -- the moves made since t
-      pub moves : (j : ℕ) × (length (end .log) ≡ length (t .log) + j) × MovesFrom w cs t j
+      pub moves : (j : ℕ) × (length (end .log) ≡ length (t .log) + j) × MoveCount n pt w cs t j
