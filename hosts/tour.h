@@ -73,8 +73,9 @@ typedef struct {
     size_t points, picks;
 } tour_job;
 
-/* Reads a job file: the points, in steps, to the start of x and y, the picks to the start of picks. x and y need as many elements as
- * the job has points (48 are always enough), picks as many as it has picks (4091 are always enough). */
+/* Reads a job file: the points, in steps, to the start of x and y, the picks to the start of picks. A step is ten micrometres; an exact
+ * half goes away from zero: 5 gives 1, -5 gives -1. x and y need as many elements as the job has points (48 are always enough), picks as
+ * many as it has picks (4091 are always enough). */
 tour_job tour_read_job(const uint8_t *job, size_t job_len, int32_t *x, size_t x_len, int32_t *y, size_t y_len,
     uint32_t *picks, size_t picks_len);
 

@@ -36,7 +36,13 @@ def job(points, picks, *, n=None, at=20, m=None, picks_at=None, total=None, pad=
 
 
 def steps(v):
-    return (v + 5) // 10
+    """The nearest tenth part, exact halves away from zero."""
+    return (v + 5) // 10 if v >= 0 else -((5 - v) // 10)
+
+
+def with_mirror_images(points):
+    """A board, the same mirrored about x = 0, and about y = 0."""
+    return points, [(-x, y) for x, y in points], [(x, -y) for x, y in points]
 
 
 def signed(w):
@@ -179,11 +185,22 @@ def jobs():
     yield job([(-26, 24), (26, -24), (-24, -26), (24, 26)], draw(4, 20))
     yield job([(2**31 - 1, 2**31 - 1), (-(2**31), -(2**31)), (2**31 - 1, -(2**31)), (-(2**31), 2**31 - 1)], [0, 0])
     yield job([(2**31 - 1, 0), (2**31 - 3, 10), (2**31 - 4, 20), (-(2**31), 30), (-(2**31) + 3, 40)], draw(5, 20))
+    # halves away from zero, just beside them, and the values at the ends, of which the lowest has no negative
+    yield job([(-5, -15), (5, -15), (15, 5), (-15, 5)], [])
+    yield job([(-4, -6), (6, -4), (4, 6), (-6, 4)], [])
+    top = 2**31 - 1
+    yield job([(-top, -top), (top, -top), (top, top), (-top, top)], [])
+    yield job([(-top - 1, -top - 1), (top, -top), (top, top), (-top, top)], [])
+    yield job([(-top - 1, 0), (-top, 0), (top, top)], [])
+    # boards and their mirror images
+    for points in ([(-5, 0), (-15, 45), (5, 25), (15, -35), (25, 5), (-25, -5), (45, -15)], spread(24, 21, 4000)):
+        for image in with_mirror_images(points):
+            yield job(image, draw(7, 300))
     # 5: equal by rounding, and just not
     yield job([(0, 0), (100, 0), (4, 4), (0, 100)], [1])
     yield job([(0, 0), (100, 0), (5, 4), (0, 100)], [1])
+    yield job([(-4, 0), (100, 0), (4, 0), (0, 100)], [1])
     yield job([(-5, 0), (100, 0), (4, 0), (0, 100)], [1])
-    yield job([(-6, 0), (100, 0), (4, 0), (0, 100)], [1])
     yield job([(7, 7), (7, 7)], [])
     # 6: few points
     yield job([(0, 0), (10, 10)], [1, 2])

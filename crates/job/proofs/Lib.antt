@@ -10,6 +10,8 @@ pub mod ReadJobs
 -- The encoder's bytes, and that the reader reads back what was written
 pub mod Encoding
 pub mod RoundTrip
+-- Mirrored jobs are read as mirrored points
+pub mod Mirrors
 -- The text of numbers, lines and answers
 pub mod Decimals
 pub mod Lines

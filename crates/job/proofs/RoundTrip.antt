@@ -1,24 +1,25 @@
 -- The reader reads back exactly what the encoder wrote.
 use mathlib.Core.Path.{_≡_, refl, sym, ap, subst, _∙_}
 use mathlib.Core.Bool.{true, false}
-use mathlib.Core.List.{List, [], _∷_, _++_, map}
+use mathlib.Core.List.{List, [], _∷_, _++_, map, map-map}
 use Prim.Native.Nat.{ℕ, zero, suc, _+_, _*_, _^_, _≤_, _<_}
 use native.Mathlib.Omega.{arith}
-use lib.ListN.{length, getD, take, drop, length-append, length-map, List·getD-append, List·getD-map}
+use lib.ListN.{length, getD, take, drop, length-append, List·getD-append}
 use lib.Seq.{getD-append-add, getD-at}
 use lib.IntN.{ℤ, pos}
 use lib.Signed.{mag}
 use borrow.Author.Tests.{le-ltb, eq-eqb}
 use Rattle.algebra.specs.Cases.{both, le-cases}
+use Rattle.algebra.specs.Ranges.{upFrom}
 use Rattle.geometry.specs.Answers.{answered}
 use Rattle.geometry.specs.Lent.{coord}
 use Rattle.job.specs.Words.{word, signed, bitsOf}
 use Rattle.job.specs.Steps.{steps}
 use Rattle.job.specs.Buffers.{over}
-use Rattle.job.specs.Job.{pointCount, pointStart, pickCount, pickStart, total, xAt, yAt, pickAt, outside, refusal, accepted, answer, outcomeOf, Reading}
+use Rattle.job.specs.Job.{pointCount, pointStart, pickCount, pickStart, total, xIn, yIn, pickAt, outside, refusal, accepted, answer, outcomeOf, Reading}
 use Rattle.job.specs.Encoded.{header, pairs, jobOf, Made}
 use Rattle.job.specs.declared.reader.Outcome.{Outcome}
-use Rattle.job.proofs.Written.{table-is}
+use Rattle.job.proofs.Written.{table, table-is}
 use Rattle.job.proofs.TwosComplement.{Bytes, signed-bits, bits-small}
 use Rattle.job.proofs.Refusals.{no-refusal, of-words}
 use Rattle.job.proofs.Encoding.{Small, none, more, small-append, word-bytes, bytes-of-words, length-pairs, length-job, fitting, made-job}
@@ -61,8 +62,17 @@ inside-area : (s k e : ℕ) → 20 ≤ s → s + k ≤ e → outside s k e ≡ f
 unfolding outside
 inside-area s k e h g = rw (le-ltb s 20 h, le-ltb e (s + k) g)
 
+-- points and picks that the encoder takes
+pub record Encodable (x y : List ℤ) (picks : List ℕ) : Type 0 where
+  pub fit-x : Fit x
+  pub fit-y : Fit y
+  pub fit-picks : Small picks
+  pub same : length y ≡ length x
+  pub few : length x ≤ 48
+  pub short : 20 + 8 * length x + 4 * length picks ≤ 16384
+
 -- ---- what the reader finds in the encoded job
-module _ (x y : List ℤ) (picks : List ℕ) (fx : Fit x) (fy : Fit y) (fp : Small picks) (few : length x ≤ 48) (short : 20 + 8 * length x + 4 * length picks ≤ 16384) where
+module _ {x y : List ℤ} {picks : List ℕ} (made : Encodable x y picks) where
   abbrev n : ℕ
   n = length x
 
@@ -81,12 +91,12 @@ module _ (x y : List ℤ) (picks : List ℕ) (fx : Fit x) (fy : Fit y) (fp : Sma
   small : Small (header n m ++ rest)
   unfolding header
   small =
-      let a : n < 2 ^ 32 = omega arith in
+      let a : n < 2 ^ 32 = omega (arith, made .few) in
       let b : 20 < 2 ^ 32 = omega arith in
-      let c : m < 2 ^ 32 = omega arith in
-      let d : 20 + 8 * n < 2 ^ 32 = omega arith in
-      let e : 20 + 8 * n + 4 * m < 2 ^ 32 = omega arith in
-      more a (more b (more c (more d (more e (small-append (small-pairs x y fx fy n) fp)))))
+      let c : m < 2 ^ 32 = omega (arith, made .short) in
+      let d : 20 + 8 * n < 2 ^ 32 = omega (arith, made .short) in
+      let e : 20 + 8 * n + 4 * m < 2 ^ 32 = omega (arith, made .short) in
+      more a (more b (more c (more d (more e (small-append (small-pairs x y (made .fit-x) (made .fit-y) n) (made .fit-picks))))))
 
   bytes : Bytes job
   unfolding jobOf
@@ -103,37 +113,43 @@ module _ (x y : List ℤ) (picks : List ℕ) (fx : Fit x) (fy : Fit y) (fp : Sma
       let b : 5 + j < length (header n m ++ rest) = omega (arith, length-rest) in
       ap (word job) g ∙ word-bytes (header n m ++ rest) (5 + j) b small ∙ getD-append-add (header n m) rest j 0
 
-  points-is : pointCount job ≡ n
+  pub points-is : pointCount job ≡ n
   unfolding header
   points-is = head-word 0 (omega arith)
 
-  start-is : pointStart job ≡ 20
+  pub start-is : pointStart job ≡ 20
   unfolding header
   start-is = head-word 1 (omega arith)
 
-  picks-is : pickCount job ≡ m
+  pub picks-is : pickCount job ≡ m
   unfolding header
   picks-is = head-word 2 (omega arith)
 
-  pick-start-is : pickStart job ≡ 20 + 8 * n
+  pub pick-start-is : pickStart job ≡ 20 + 8 * n
   unfolding header
   pick-start-is = head-word 3 (omega arith)
 
-  total-is : total job ≡ 20 + 8 * n + 4 * m
+  pub total-is : total job ≡ 20 + 8 * n + 4 * m
   unfolding header
   total-is = head-word 4 (omega arith)
 
-  x-is : (i : ℕ) → i < n → xAt job i ≡ steps (coord x i)
-  x-is i h =
+  x-in : (i : ℕ) → i < n → xIn job i ≡ coord x i
+  x-in i h =
       let a : 2 * i < length (pairs x y n) = rw (length-pairs x y n) (omega arith) in
-      ap (λ w. steps (signed w)) (rest-word (2 * i) (pointStart job + 8 * i) (omega arith) (omega (arith, start-is)) ∙ List·getD-append (pairs x y n) picks 0 (2 * i) a ∙ pairs-x x y n i h)
-      ∙ ap steps (signed-bits (coord x i) (fx .fit i))
+      ap signed (rest-word (2 * i) (pointStart job + 8 * i) (omega arith) (omega (arith, start-is)) ∙ List·getD-append (pairs x y n) picks 0 (2 * i) a ∙ pairs-x x y n i h)
+      ∙ signed-bits (coord x i) (made .fit-x .fit i)
 
-  y-is : (i : ℕ) → i < n → yAt job i ≡ steps (coord y i)
-  y-is i h =
+  y-in : (i : ℕ) → i < n → yIn job i ≡ coord y i
+  y-in i h =
       let a : 2 * i + 1 < length (pairs x y n) = rw (length-pairs x y n) (omega arith) in
-      ap (λ w. steps (signed w)) (rest-word (2 * i + 1) (pointStart job + 4 + 8 * i) (omega arith) (omega (arith, start-is)) ∙ List·getD-append (pairs x y n) picks 0 (2 * i + 1) a ∙ pairs-y x y n i h)
-      ∙ ap steps (signed-bits (coord y i) (fy .fit i))
+      ap signed (rest-word (2 * i + 1) (pointStart job + 4 + 8 * i) (omega arith) (omega (arith, start-is)) ∙ List·getD-append (pairs x y n) picks 0 (2 * i + 1) a ∙ pairs-y x y n i h)
+      ∙ signed-bits (coord y i) (made .fit-y .fit i)
+
+  pub encoded-xs : table (xIn job) n ≡ x
+  encoded-xs = table-is (xIn job) x (pos 0) n refl x-in
+
+  pub encoded-ys : table (yIn job) n ≡ y
+  encoded-ys = table-is (yIn job) y (pos 0) n (made .same) y-in
 
   pick-is : (i : ℕ) → i < m → pickAt job i ≡ getD picks i 0
   pick-is i h =
@@ -146,7 +162,7 @@ module _ (x y : List ℤ) (picks : List ℕ) (fx : Fit x) (fy : Fit y) (fp : Sma
       let len = length-job x y picks in
       sym
       (of-words job n 20 m (20 + 8 * n) (20 + 8 * n + 4 * m) nx ny np bytes (sym points-is) (sym start-is) (sym picks-is) (sym pick-start-is) (sym total-is)
-      (no-refusal (length job) n 20 m (20 + 8 * n) (20 + 8 * n + 4 * m) true nx ny np (omega (arith, len)) (omega (arith, len)) (sym len) few
+      (no-refusal (length job) n 20 m (20 + 8 * n) (20 + 8 * n + 4 * m) true nx ny np (omega (arith, len)) (omega (arith, len)) (sym len) (made .few)
       (inside-area 20 (8 * n) (20 + 8 * n + 4 * m) (omega arith) (omega arith))
       (inside-area (20 + 8 * n) (4 * m) (20 + 8 * n + 4 * m) (omega arith) (omega arith))
       a b c refl))
@@ -158,32 +174,26 @@ pub record Back (x y : List ℤ) (picks : List ℕ) (X Y : List ℤ) (Q : List �
   pub ys : Y′ ≡ map steps y ++ drop (length x) Y
   pub qs : Q′ ≡ picks ++ drop (length picks) Q
 
-encoded-back : (x y : List ℤ) (picks : List ℕ) → Fit x → Fit y → Small picks → length y ≡ length x → length x ≤ 48
-    → 20 + 8 * length x + 4 * length picks ≤ 16384
+encoded-back : {x y : List ℤ} {picks : List ℕ} → Encodable x y picks
     → (X Y : List ℤ) (Q : List ℕ) → length x ≤ length X → length x ≤ length Y → length picks ≤ length Q
     → {r : Outcome} {X′ Y′ : List ℤ} {Q′ : List ℕ} → Reading (jobOf x y picks) X Y Q r X′ Y′ Q′ → Back x y picks X Y Q r X′ Y′ Q′
 unfolding answer accepted over
-encoded-back x y picks fx fy fp same few short X Y Q hx hy hq {r} {X′} {Y′} {Q′} g =
+encoded-back {x} {y} {picks} made X Y Q hx hy hq {r} {X′} {Y′} {Q′} g =
     let job = jobOf x y picks in
-    let e = eq-eqb (refusal job (length X) (length Y) (length Q)) 0 (encoded-passes x y picks fx fy fp few short (length X) (length Y) (length Q) hx hy hq) in
-    let p = points-is x y picks fx fy fp few short in
-    let q = picks-is x y picks fx fy fp few short in
+    let e = eq-eqb (refusal job (length X) (length Y) (length Q)) 0 (encoded-passes made (length X) (length Y) (length Q) hx hy hq) in
+    let p = points-is made in
+    let q = picks-is made in
     record {
       answers = rw (e, p, q) at (g .answers);
       xs =
           rw (e, p) at (g .xs)
-          ∙ ap (λ l. l ++ drop (length x) X)
-          (table-is (xAt job) (map steps x) (steps (pos 0)) (length x) (length-map x steps)
-          (λ i h. x-is x y picks fx fy fp few short i h ∙ sym (List·getD-map steps x i (pos 0))));
+          ∙ ap (λ l. l ++ drop (length x) X) (sym (map-map steps (xIn job) (upFrom 0 (length x))) ∙ ap (map steps) (encoded-xs made));
       ys =
           rw (e, p) at (g .ys)
-          ∙ ap (λ l. l ++ drop (length x) Y)
-          (table-is (yAt job) (map steps y) (steps (pos 0)) (length x) (length-map y steps ∙ same)
-          (λ i h. y-is x y picks fx fy fp few short i h ∙ sym (List·getD-map steps y i (pos 0))));
+          ∙ ap (λ l. l ++ drop (length x) Y) (sym (map-map steps (yIn job) (upFrom 0 (length x))) ∙ ap (map steps) (encoded-ys made));
       qs =
           rw (e, q) at (g .ps)
-          ∙ ap (λ l. l ++ drop (length picks) Q)
-          (table-is (pickAt job) picks 0 (length picks) refl (λ i h. pick-is x y picks fx fy fp few short i h));
+          ∙ ap (λ l. l ++ drop (length picks) Q) (table-is (pickAt job) picks 0 (length picks) refl (pick-is made));
     }
 
 -- `write_job` writes n bytes at the start of out, n not 0; `read_job` of these bytes gives the steps of the points, and the picks.
@@ -193,4 +203,5 @@ pub there-and-back : (x y : List ℤ) (picks out : List ℕ) {n : ℕ} {out′ :
     → {r : Outcome} {X′ Y′ : List ℤ} {Q′ : List ℕ} → Reading (take n out′) X Y Q r X′ Y′ Q′ → Back x y picks X Y Q r X′ Y′ Q′
 there-and-back x y picks out {n} {out′} fx fy fp m h X Y Q hx hy hq {r} {X′} {Y′} {Q′} g =
     let f = fitting (length x) (length y) (length picks) (length out) (λ e. h (m .answer ∙ e)) in
-    encoded-back x y picks fx fy fp (f .same) (f .few) (f .short) X Y Q hx hy hq (subst (λ (j : List ℕ). Reading j X Y Q r X′ Y′ Q′) (made-job m h) g)
+    let made : Encodable x y picks = record { fit-x = fx; fit-y = fy; fit-picks = fp; same = f .same; few = f .few; short = f .short } in
+    encoded-back made X Y Q hx hy hq (subst (λ (j : List ℕ). Reading j X Y Q r X′ Y′ Q′) (made-job m h) g)

@@ -32,11 +32,18 @@ abbrev pub total : List ℕ → ℕ
 total job = word job 16
 
 -- ---- the entries: a point is x then y in micrometres, a pick is one word
+abbrev pub xIn : List ℕ → ℕ → ℤ
+xIn job i = signed (word job (pointStart job + 8 * i))
+
+abbrev pub yIn : List ℕ → ℕ → ℤ
+yIn job i = signed (word job (pointStart job + 4 + 8 * i))
+
+-- the same in steps
 abbrev pub xAt : List ℕ → ℕ → ℤ
-xAt job i = steps (signed (word job (pointStart job + 8 * i)))
+xAt job i = steps (xIn job i)
 
 abbrev pub yAt : List ℕ → ℕ → ℤ
-yAt job i = steps (signed (word job (pointStart job + 4 + 8 * i)))
+yAt job i = steps (yIn job i)
 
 abbrev pub pickAt : List ℕ → ℕ → ℕ
 pickAt job i = word job (pickStart job + 4 * i)

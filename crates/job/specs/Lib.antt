@@ -4,6 +4,7 @@ pub mod Steps
 pub mod Buffers
 pub mod Job
 pub mod Encoded
+pub mod Mirrored
 -- What is printed
 pub mod Ascii
 pub mod Decimal

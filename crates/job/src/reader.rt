@@ -5,6 +5,7 @@ ghost use Prim.Native.Nat.{_+_, _*_, _^_, _≤_, _<_};
 ghost use lib.ListN.{length};
 ghost use Rattle.job.specs.Words.{word, signed};
 ghost use Rattle.job.specs.Steps.{steps};
+ghost use Rattle.job.specs.Steps.{tenth as tenthOf};
 ghost use Rattle.job.specs.Buffers.{over};
 ghost use Rattle.job.specs.Job.{outside, decide, Reading};
 ghost use Rattle.job.specs.Job.{refusal as refusalOf};
@@ -16,15 +17,23 @@ pub enum Outcome {
     Refused(u8),
 }
 
-// The steps that a word of micrometres makes. Division rounds toward zero, so a negative number is counted from -1 downward:
-// -5 has the word 2³² - 5, is 4 below -1, and makes -((4 + 5) / 10) = 0 steps.
+// The nearest tenth part, an exact half upward.
+fn tenth(n: u32) -> u32
+    requires { ⌜ n ≤ 2 ^ 31 ⌝ }
+    ensures { λ r. ⌜ r ≡ tenthOf n ⌝ }
+{
+    (n + 5) / 10
+}
+
+// The steps that a word of micrometres makes. A negative number is rounded as its opposite, which is 2³² less the word, so an exact
+// half goes away from zero on both sides. 2³² is no 32-bit number: the difference is made from 2³² - 1.
 fn step_of(w: u32) -> i32
     ensures { λ r. ⌜ r ≡ steps (signed w) ⌝ }
 {
     if w < 2147483648 {
-        return ((w + 5) / 10) as i32;
+        return tenth(w) as i32;
     }
-    -((((4294967295 - w) + 5) / 10) as i32)
+    -(tenth((4294967295 - w) + 1) as i32)
 }
 
 // The steps of every other word from `start` on, into the first n places of x.
