@@ -14,7 +14,7 @@ use Rattle.algebra.specs.Size.{abs}
 use Rattle.algebra.specs.Cases.{both, le-cases}
 use Rattle.job.specs.Words.{signed, bitsOf}
 use Rattle.job.specs.Steps.{distance, Nearest, tenth, steps}
-use Rattle.job.proofs.TwosComplement.{signed-low, signed-high, signed-bits, less, less-fits}
+use Rattle.job.proofs.TwosComplement.{signed-low, signed-high, signed-bits, neg-fits, less, less-fits}
 
 -- ---- the distance in ℕ
 size-is : (z : ℤ) (a b : ℕ) → Is z a b → natAbs z ≡ (a - b) + (b - a)
@@ -114,15 +114,11 @@ lowest = (refl, refl, refl)
 pub word-mirror : (w : ℕ) → w < 2 ^ 32 → w ≢ 2 ^ 31 → steps (signed (bitsOf (negℤ (signed w)))) ≡ negℤ (steps (signed w))
 word-mirror w h k = ap steps (signed-bits (negℤ (signed w)) small) ∙ steps-mirror (signed w)
   where
-    small-neg : (n : ℕ) → n < 2 ^ 31 → mag (negℤ (pos n)) < 2 ^ 31
-    small-neg zero l = omega arith
-    small-neg (suc n) l = omega arith
-
     small : mag (negℤ (signed w)) < 2 ^ 31
     small =
         both (le-cases (2 ^ 31) w)
         (λ g. rw (signed-high w (g .0) h) (omega (arith, k, g .0)))
-        (λ g. rw (signed-low w (g .0)) (small-neg w (g .0)))
+        (λ g. rw (signed-low w (g .0)) (neg-fits w (g .0) .sfits))
 
 -- what `step_of` answers for the two words, from its contract
 pub step-of-mirror : (w : ℕ) {r r′ : ℤ} → w < 2 ^ 32 → w ≢ 2 ^ 31 → r ≡ steps (signed w) → r′ ≡ steps (signed (bitsOf (negℤ (signed w)))) → r′ ≡ negℤ r

@@ -46,7 +46,7 @@ unfolding word
 word-range l i b = omega (arith, b .byte i, b .byte (i + 1), b .byte (i + 2), b .byte (i + 3))
 
 -- ---- the machine's negation
-neg-fits : (n : ℕ) → n < 2 ^ 31 → SFits w32 (negℤ (pos n))
+pub neg-fits : (n : ℕ) → n < 2 ^ 31 → SFits w32 (negℤ (pos n))
 neg-fits zero h = record { sfits = omega arith }
 neg-fits (suc n) h = record { sfits = omega arith }
 
