@@ -89,6 +89,7 @@ module _ {x y x′ y′ : List ℤ} {picks : List ℕ} (a : Encodable x y picks)
         whole = total-is b ∙ ap (λ k. 20 + 8 * k + 4 * length picks) e ∙ sym (total-is a);
       }
 
+-- a module of its own: `job-xs` and `job-ys` are used of both jobs
 module _ {x y : List ℤ} {picks : List ℕ} (a : Encodable x y picks) where
   pub encoded-mirrored-x : Fit (map negℤ x) → MirroredX (jobOf x y picks) (jobOf (map negℤ x) y picks) × SameFrame (jobOf x y picks) (jobOf (map negℤ x) y picks)
   encoded-mirrored-x f =

@@ -31,7 +31,8 @@ pickStart job = word job 12
 abbrev pub total : List ℕ → ℕ
 total job = word job 16
 
--- ---- the entries: a point is x then y in micrometres, a pick is one word
+-- ---- the entries
+-- a point is x then y, in micrometres
 abbrev pub xIn : List ℕ → ℕ → ℤ
 xIn job i = signed (word job (pointStart job + 8 * i))
 
@@ -45,6 +46,7 @@ xAt job i = steps (xIn job i)
 abbrev pub yAt : List ℕ → ℕ → ℤ
 yAt job i = steps (yIn job i)
 
+-- a pick is one word
 abbrev pub pickAt : List ℕ → ℕ → ℕ
 pickAt job i = word job (pickStart job + 4 * i)
 
