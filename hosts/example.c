@@ -55,6 +55,8 @@ int main(void) {
     printf("job: code %u points %zu picks %zu\n", (unsigned)read.code, read.points, read.picks);
     printf("job cut off: code %u\n", (unsigned)tour_read_job(job, at - 1, x, N, y, N, picks, 4091).code);
     printf("job, short buffer: code %u\n", (unsigned)tour_read_job(job, at, x, 3, y, N, picks, 4091).code);
+    job[12] = 48; /* the pick area starts at byte 48, in the last point */
+    printf("job, pick over the last point: code %u\n", (unsigned)tour_read_job(job, at, x, 3, y, N, picks, 4091).code);
 
     memset(work, 0xa5, sizeof work);
     memset(words, 0xa5, sizeof words);

@@ -27,12 +27,14 @@ fn code<T>(answer: Result<T, u32>) -> u32 {
 fn main() {
     // the job of four points in micrometres and one pick
     let words: [u32; 14] = [4, 20, 1, 52, 56, 0, 0, 100, 100, 100, 0, 0, 100, 7];
-    let job: Vec<u8> = words.iter().flat_map(|w| w.to_le_bytes()).collect();
+    let mut job: Vec<u8> = words.iter().flat_map(|w| w.to_le_bytes()).collect();
     let (mut x, mut y, mut all_picks) = ([0i32; 8], [0i32; 8], [0u32; 4091]);
     let (n, used) = tour::read_job(&job, &mut x, &mut y, &mut all_picks).expect("a good job");
     println!("job: code 0 points {n} picks {used}");
     println!("job cut off: code {}", code(tour::read_job(&job[..job.len() - 1], &mut x, &mut y, &mut all_picks)));
     println!("job, short buffer: code {}", code(tour::read_job(&job, &mut x[..3], &mut y, &mut all_picks)));
+    job[12] = 48; // the pick area starts at byte 48, in the last point
+    println!("job, pick over the last point: code {}", code(tour::read_job(&job, &mut x[..3], &mut y, &mut all_picks)));
 
     let picks = &all_picks[..used];
     let mut lent = Buffers::new(8);

@@ -2,7 +2,7 @@
  *
  * A slice is a pointer and a length in elements; where the length is 0 the pointer may be NULL. What the functions cannot
  * see, and the host answers for: a pointer is good for its length and aligned, and no buffer that a call writes shares memory with another
- * buffer of the same call. Everything else is checked, in the order of the refusal numbers, before anything is written:
+ * buffer of the same call. Everything else is checked before anything is written, in the order of the refusal numbers (a job: 9 to 13, then 2):
  *
  *    1  more than 256 points
  *    2  a buffer shorter than the call needs
@@ -12,6 +12,7 @@
  *    8  the picks are used up and records are left: ring and work buffers hold the state
  *    9  a job shorter than 20 or longer than 16384 bytes              10  a total word that is not that length
  *   11  a job of more than 48 points                                  12  an area outside the job
+ *   13  a byte that belongs to both areas of a job
  *
  * Every refusal but 8 leaves all buffers of the call as they were. No function keeps a pointer, allocates or fails otherwise;
  * calls in different threads do not touch each other.
@@ -67,7 +68,7 @@ tour_answer tour_resolve_self_intersections(TOUR_WORK);
 /* 1: the segments a1 a2 and b1 b2 share a place that is not an end of both; 0: they do not; 3: refused. */
 uint32_t tour_meets(int32_t a1x, int32_t a1y, int32_t a2x, int32_t a2y, int32_t b1x, int32_t b1y, int32_t b2x, int32_t b2y);
 
-/* code 0: points and picks that were read. Any other code: a refusal (9 to 12, then 2). */
+/* code 0: points and picks that were read. Any other code: a refusal (9 to 13, then 2). */
 typedef struct {
     uint32_t code;
     size_t points, picks;

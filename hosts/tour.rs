@@ -128,7 +128,7 @@ pub fn meets(a: [[i32; 2]; 2], b: [[i32; 2]; 2]) -> Result<bool, u32> {
 }
 
 /// Reads a job file, its points in steps of ten micrometres, an exact half away from zero; answers how many points and picks it has, or
-/// the number of the refusal.
+/// the number of the refusal: 9 to 13, then 2.
 pub fn read_job(job: &[u8], x: &mut [i32], y: &mut [i32], picks: &mut [u32]) -> Result<(usize, usize), u32> {
     // SAFETY: as above.
     let read = unsafe {

@@ -35,6 +35,12 @@ def job(points, picks, *, n=None, at=20, m=None, picks_at=None, total=None, pad=
     ) + body
 
 
+def areas(at, n, picks_at, m, end=0):
+    """A job with its areas where they are said to be, over bytes that count on."""
+    end = max(end, at + 8 * n, picks_at + 4 * m)
+    return words(n, at, m, picks_at, end) + bytes(k * 37 % 256 for k in range(20, end))
+
+
 def steps(v):
     """The nearest tenth part, exact halves away from zero."""
     return (v + 5) // 10 if v >= 0 else -((5 - v) // 10)
@@ -57,6 +63,10 @@ def outside(start, size, total):
     return start < 20 or start + size > total
 
 
+def shares_bytes(start, size, other, extent):
+    return bool(set(range(start, start + size)) & set(range(other, other + extent)))
+
+
 def refusal(b):
     if len(b) < 20 or len(b) > LIMIT:
         return 9
@@ -67,6 +77,8 @@ def refusal(b):
         return 11
     if outside(at, 8 * n, total) or outside(picks_at, 4 * m, total):
         return 12
+    if shares_bytes(at, 8 * n, picks_at, 4 * m):
+        return 13
     return 0
 
 
@@ -173,10 +185,31 @@ def jobs():
         yield job(CROSSED, [7], n=0, at=at)
     for picks_at in (19, 20, 56, 57):
         yield job(CROSSED, [7], m=0, picks_at=picks_at)
-    # overlapping areas: the picks are the last point, or the points themselves
+    # 13: the exporter's picks over the last point, over the last two, over all; after 12, and after 11
     yield job(CROSSED, [], m=2, picks_at=44)
+    yield job(CROSSED, [7], m=3, picks_at=44)
+    yield job(CROSSED, [], m=4, picks_at=36)
     yield job(CROSSED, [], m=8, picks_at=20)
-    yield job(CROSSED, [7], at=20, picks_at=22, m=1)
+    yield job(CROSSED, [7], m=4, picks_at=44)
+    yield job(CROSSED, [7], n=49, picks_at=48)
+    # areas that touch, and that share one byte, in both orders
+    yield areas(20, 4, 52, 1)
+    yield areas(24, 4, 20, 1)
+    yield words(4, 24, 1, 20, 56, 7) + b"".join(words(x, y) for x, y in CROSSED)
+    yield areas(20, 4, 51, 1)
+    yield areas(23, 4, 20, 1)
+    # one in the other: at its start, in the middle, at its end
+    for k in (20, 22, 34, 48):
+        yield areas(20, 4, k, 1)
+    for k in (20, 22, 34, 44):
+        yield areas(k, 1, 20, 8)
+    # an empty area in the other, at its start, in the middle, at its end; both empty
+    for k in (20, 30, 51, 52):
+        yield areas(20, 4, k, 0)
+        yield areas(k, 0, 20, 8)
+    yield areas(20, 0, 20, 0)
+    yield areas(30, 0, 30, 0, 40)
+    # bytes between the areas that belong to none
     yield job(CROSSED, [7], gap=13)
     # rounding: around the halves, and the largest values
     yield job([(-16, -15), (-14, 15), (16, 14), (5, -5)], [])

@@ -9,7 +9,7 @@ use Rattle.job.specs.Ascii.{ascii}
 use Rattle.job.specs.Words.{word, signed, wordBytes, bytesOf, bitsOf}
 use Rattle.job.specs.Steps.{steps}
 use Rattle.job.specs.Buffers.{over}
-use Rattle.job.specs.Job.{xAt, yAt, pickAt, outside, inRange, decide, refusal, accepted, answer}
+use Rattle.job.specs.Job.{xAt, yAt, pickAt, outside, sharesBytes, inRange, decide, refusal, accepted, answer}
 use Rattle.job.specs.Encoded.{header, pairs, jobOf}
 use Rattle.job.specs.Decimal.{digits, decimal, integer}
 use Rattle.job.specs.Feed.{reach, edgeFeed, feedTo}
@@ -35,7 +35,7 @@ unfolding jobOf header pairs bytesOf wordBytes bitsOf
 encoded = refl
 
 pub read : answer job 4 4 1 ≡ answered (record { points = 4; picks = 1 })
-unfolding answer accepted refusal decide outside inRange word signed steps bytesOf wordBytes
+unfolding answer accepted refusal decide outside sharesBytes inRange word signed steps bytesOf wordBytes
 read = refl
 
 pub read-x : over (pos 9 ∷ pos 9 ∷ pos 9 ∷ pos 9 ∷ pos 9 ∷ []) (xAt job) 4 ≡ x ++ (pos 9 ∷ [])

@@ -4,6 +4,8 @@ pub mod Written
 pub mod TwosComplement
 -- Micrometres to steps
 pub mod Rounding
+-- Areas that share bytes
+pub mod Areas
 -- The reader's checks, and what holds of an accepted job
 pub mod Refusals
 pub mod ReadJobs

@@ -16,11 +16,12 @@ use Rattle.geometry.specs.Lent.{coord}
 use Rattle.job.specs.Words.{word, signed, bitsOf}
 use Rattle.job.specs.Steps.{steps}
 use Rattle.job.specs.Buffers.{over}
-use Rattle.job.specs.Job.{pointCount, pointStart, pickCount, pickStart, total, xIn, yIn, pickAt, outside, refusal, accepted, answer, outcomeOf, Reading}
+use Rattle.job.specs.Job.{pointCount, pointStart, pickCount, pickStart, total, xIn, yIn, pickAt, outside, sharesBytes, refusal, accepted, answer, outcomeOf, Reading}
 use Rattle.job.specs.Encoded.{header, pairs, jobOf, Made}
 use Rattle.job.specs.declared.reader.Outcome.{Outcome}
 use Rattle.job.proofs.Written.{table, table-is}
 use Rattle.job.proofs.TwosComplement.{Bytes, signed-bits, bits-small}
+use Rattle.job.proofs.Areas.{ends-before}
 use Rattle.job.proofs.Refusals.{no-refusal, of-words}
 use Rattle.job.proofs.Encoding.{Small, none, more, small-append, word-bytes, bytes-of-words, length-pairs, length-job, fitting, made-job}
 
@@ -157,6 +158,10 @@ module _ {x y : List ℤ} {picks : List ℕ} (made : Encodable x y picks) where
       ∙ ap (λ k. getD rest (k + i) 0) (sym (length-pairs x y n))
       ∙ getD-append-add (pairs x y n) picks i 0
 
+  -- the picks start where the points end: no byte belongs to both areas
+  encoded-apart : sharesBytes 20 (8 * n) (20 + 8 * n) (4 * m) ≡ false
+  encoded-apart = ends-before 20 (8 * n) (20 + 8 * n) (4 * m) (omega arith)
+
   encoded-passes : (nx ny np : ℕ) → n ≤ nx → n ≤ ny → m ≤ np → refusal job nx ny np ≡ 0
   encoded-passes nx ny np a b c =
       let len = length-job x y picks in
@@ -165,7 +170,7 @@ module _ {x y : List ℤ} {picks : List ℕ} (made : Encodable x y picks) where
       (no-refusal (length job) n 20 m (20 + 8 * n) (20 + 8 * n + 4 * m) true nx ny np (omega (arith, len)) (omega (arith, len)) (sym len) (made .few)
       (inside-area 20 (8 * n) (20 + 8 * n + 4 * m) (omega arith) (omega arith))
       (inside-area (20 + 8 * n) (4 * m) (20 + 8 * n + 4 * m) (omega arith) (omega arith))
-      a b c refl))
+      encoded-apart a b c refl))
 
 -- What the reader answers and leaves for a job of the points x, y and the picks: their steps and the picks at the start of X, Y and Q.
 pub record Back (x y : List ℤ) (picks : List ℕ) (X Y : List ℤ) (Q : List ℕ) (r : Outcome) (X′ Y′ : List ℤ) (Q′ : List ℕ) : Type 0 where

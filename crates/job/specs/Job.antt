@@ -2,7 +2,7 @@
 use mathlib.Core.Path.{_≡_}
 use mathlib.Core.Bool.{Bool, not, _&&_, _||_, cond}
 use mathlib.Core.List.{List}
-use Prim.Native.Nat.{ℕ, _+_, _*_}
+use Prim.Native.Nat.{ℕ, _+_, _*_, _≤_, _<_}
 use lib.ListN.{length}
 use lib.Dec.{ltb, eqb}
 use lib.IntN.{ℤ}
@@ -51,9 +51,21 @@ abbrev pub pickAt : List ℕ → ℕ → ℕ
 pickAt job i = word job (pickStart job + 4 * i)
 
 -- ---- the checks
--- An area starts before byte 20 or ends past the total. So an empty area too starts from 20 to the total. Areas may overlap.
+-- An area starts before byte 20 or ends past the total. So an empty area too starts from 20 to the total.
 unfoldable pub outside : (start size total : ℕ) → Bool
 outside start size total = ltb start 20 || ltb total (start + size)
+
+-- byte b belongs to the area of `size` bytes from `start` on; an empty area has none
+abbrev pub BelongsTo : (b start size : ℕ) → Type 0
+BelongsTo b start size = (start ≤ b) × (b < start + size)
+
+-- Two areas share bytes: there is a byte that belongs to both.
+abbrev pub SharesBytes : (start size start′ size′ : ℕ) → Type 0
+SharesBytes start size start′ size′ = (b : ℕ) × BelongsTo b start size × BelongsTo b start′ size′
+
+-- The same as a test: each area starts before the other's end, and neither is empty.
+unfoldable pub sharesBytes : (start size start′ size′ : ℕ) → Bool
+sharesBytes start size start′ size′ = (ltb start′ (start + size) && ltb start (start′ + size′)) && (ltb 0 size && ltb 0 size′)
 
 -- every coordinate is within the range, in steps
 unfoldable pub inRange : List ℕ → Bool
@@ -67,8 +79,9 @@ decide len points pointStart picks pickStart total near nx ny np =
     (cond (not (eqb total len)) 10
     (cond (ltb 48 points) 11
     (cond (outside pointStart (8 * points) total || outside pickStart (4 * picks) total) 12
+    (cond (sharesBytes pointStart (8 * points) pickStart (4 * picks)) 13
     (cond (ltb nx points || (ltb ny points || ltb np picks)) 2
-    (cond (not near) 3 0)))))
+    (cond (not near) 3 0))))))
 
 -- the same of a job's bytes
 unfoldable pub refusal : (job : List ℕ) (nx ny np : ℕ) → ℕ

@@ -7,7 +7,7 @@ ghost use Rattle.job.specs.Words.{word, signed};
 ghost use Rattle.job.specs.Steps.{steps};
 ghost use Rattle.job.specs.Steps.{tenth as tenthOf};
 ghost use Rattle.job.specs.Buffers.{over};
-ghost use Rattle.job.specs.Job.{outside, decide, Reading};
+ghost use Rattle.job.specs.Job.{outside, sharesBytes, decide, Reading};
 ghost use Rattle.job.specs.Job.{refusal as refusalOf};
 use super::word::word_at;
 
@@ -72,6 +72,24 @@ fn is_outside(start: usize, size: usize, total: usize) -> bool
     total < start + size
 }
 
+// A byte belongs to both areas: that of `size` bytes from `start` on, and that of `extent` bytes from `other` on. An empty one has none,
+// even if it starts inside the other. The sums do not wrap, as above.
+fn shares_bytes(start: usize, size: usize, other: usize, extent: usize) -> bool
+    requires { ⌜ (start + size < 2 ^ 64) × (other + extent < 2 ^ 64) ⌝ }
+    ensures { λ r. ⌜ r ≡ sharesBytes start size other extent ⌝ }
+{
+    if start + size <= other {
+        return false;
+    }
+    if other + extent <= start {
+        return false;
+    }
+    if size == 0 {
+        return false;
+    }
+    0 < extent
+}
+
 // The checks behind that of the length, over the five words: the number of the first that fails, or 0. Check 3 is not made: a word is
 // less than 2³² micrometres, so its steps are always within the range.
 fn check_words(
@@ -99,6 +117,9 @@ fn check_words(
     }
     if is_outside(pickstart, 4 * picks, total) {
         return 12;
+    }
+    if shares_bytes(start, 8 * points, pickstart, 4 * picks) {
+        return 13;
     }
     if nx < points {
         return 2;
