@@ -93,6 +93,22 @@ fn measure(make: &str, n: usize) -> Line {
     sum
 }
 
+/// The feed of a ring of n points, compared with the standard library's roots: the time of a call, and of one that is refused only at the
+/// ring's last entry, so that the difference is the feed's own.
+fn measure_feed(n: usize) -> [u128; 2] {
+    let b = board("uniform", n, 1);
+    let x: Vec<i32> = b.points.iter().map(|p| p[0]).collect();
+    let y: Vec<i32> = b.points.iter().map(|p| p[1]).collect();
+    let ring: Vec<u16> = (0..n as u16).collect();
+    let mut named_twice = ring.clone();
+    named_twice[n - 1] = ring[n - 2];
+    let gap = |a: i32, b: i32| (a as i64 - b as i64).unsigned_abs();
+    let roots = (0..n).map(|i| (i, (i + 1) % n)).map(|(i, j)| (gap(x[i], x[j]).pow(2) + gap(y[i], y[j]).pow(2)).isqrt());
+    let expected = [Ok(roots.sum()), Err(4)];
+    assert_eq!([&ring, &named_twice].map(|r| tour::feed(n, &x, &y, r)), expected);
+    [ring, named_twice].map(|r| least_time(999, || _ = black_box(tour::feed(n, black_box(&x), black_box(&y), &r))))
+}
+
 const DEPTH: usize = 1 << 20;
 const OWN: usize = 512;
 const PAINT: u8 = 0xa5;
@@ -142,6 +158,8 @@ fn main() {
             println!("{make:8} {n:3} to {:3} {:6.1} {:6.1}", 2 * n, grown(l.theirs, twice.theirs), grown(l.ours, twice.ours));
         }
     }
+    let [fed, refused] = measure_feed(256).map(|t| t as f64 / 1e3);
+    println!("\nfeed of 256 points: {fed:.1} us, its checks {refused:.1} us, the roots and their sum {:.1} us", fed - refused);
     println!("\nmemory of a call in bytes: lent (x, y, ring, index, six buffers of n*(n-1)), picks aside; stack");
     for n in [48, 256] {
         println!("n {n:3}: lent {:8} stack {:6}", n * 12 + 24 * n * (n - 1), stack_used(n));

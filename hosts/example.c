@@ -39,6 +39,12 @@ static void show_list(size_t n, unsigned a, unsigned b) {
     printf("\n");
 }
 
+/* The feed of the first n entries of a ring of four over a board of 3 by 4 steps. */
+static void show_feed(const char *title, size_t n, const int32_t *x, size_t x_len, const uint16_t *of) {
+    tour_fed f = tour_feed(n, x, x_len, (int32_t[]){0, 0, 4, 4}, 4, of, 4);
+    printf("%s: code %u feed %llu\n", title, (unsigned)f.code, (unsigned long long)f.feed);
+}
+
 static void put_word(uint8_t *job, size_t *at, uint32_t w) {
     for (int k = 0; k < 4; k++) job[(*at)++] = (uint8_t)(w >> 8 * k);
 }
@@ -79,6 +85,14 @@ int main(void) {
     show("a row, one pick", 7, call(0, 7, row_x, row_y, (uint32_t[]){0}, 1, PAIRS));
     show_list(7, 1, 4);
     printf("past the ring: %u\n", ring[N]);
+
+    static const int32_t wide[] = {0, 3, 3, 0}, too_wide[] = {0, 3, 3, 1000000001};
+    show_feed("feed around", 4, wide, 4, (uint16_t[]){0, 1, 2, 3});
+    show_feed("feed across", 4, wide, 4, (uint16_t[]){0, 2, 1, 3});
+    show_feed("feed, too many points", 257, wide, 4, (uint16_t[]){0, 1, 2, 3});
+    show_feed("feed, short buffer", 4, wide, 3, (uint16_t[]){0, 1, 2, 3});
+    show_feed("feed, too far", 4, too_wide, 4, (uint16_t[]){0, 1, 2, 3});
+    show_feed("feed, no ring", 4, wide, 4, (uint16_t[]){0, 2, 2, 3});
 
     printf("meets: %u %u %u %u\n", (unsigned)tour_meets(0, 0, 4, 0, 2, 0, 2, 3), (unsigned)tour_meets(0, 0, 4, 0, 4, 0, 2, 0),
         (unsigned)tour_meets(0, 0, 2, 0, 2, 0, 4, 0), (unsigned)tour_meets(0, 0, 0, 0, 1, 0, 2, 0));

@@ -71,6 +71,19 @@ fn main() {
     println!("  1-4 meets{}", meeting.concat());
     println!("past the ring: {}", lent.ring[8]);
 
+    let (wide, too_wide, y) = ([0, 3, 3, 0], [0, 3, 3, 1_000_000_001], [0, 0, 4, 4]);
+    for (title, n, x, ring) in [
+        ("feed around", 4, &wide[..], [0, 1, 2, 3]),
+        ("feed across", 4, &wide, [0, 2, 1, 3]),
+        ("feed, too many points", 257, &wide, [0, 1, 2, 3]),
+        ("feed, short buffer", 4, &wide[..3], [0, 1, 2, 3]),
+        ("feed, too far", 4, &too_wide, [0, 1, 2, 3]),
+        ("feed, no ring", 4, &wide, [0, 2, 2, 3]),
+    ] {
+        let fed = tour::feed(n, x, &y, &ring);
+        println!("{title}: code {} feed {}", code(fed), fed.unwrap_or(0));
+    }
+
     let met = [
         tour::meets([[0, 0], [4, 0]], [[2, 0], [2, 3]]),
         tour::meets([[0, 0], [4, 0]], [[4, 0], [2, 0]]),

@@ -65,6 +65,16 @@ tour_answer tour_two_opt_moves(TOUR_WORK);
 /* A loop through the points, starting from the lent ring. */
 tour_answer tour_resolve_self_intersections(TOUR_WORK);
 
+/* code 0: the feed, in steps. Any other code: a refusal (1 to 4), and feed is 0. */
+typedef struct {
+    uint32_t code;
+    uint64_t feed;
+} tour_fed;
+
+/* The feed of the loop that ring[0 .. n-1] names, delivered or not: the sum over its edges of the greatest whole f with f * f at most
+ * dx * dx + dy * dy. x, y and ring need n elements each and are only read. No loop has a feed of 2^40 or more. */
+tour_fed tour_feed(size_t n, const int32_t *x, size_t x_len, const int32_t *y, size_t y_len, const uint16_t *ring, size_t ring_len);
+
 /* 1: the segments a1 a2 and b1 b2 share a place that is not an end of both; 0: they do not; 3: refused. */
 uint32_t tour_meets(int32_t a1x, int32_t a1y, int32_t a2x, int32_t a2y, int32_t b1x, int32_t b1y, int32_t b2x, int32_t b2y);
 

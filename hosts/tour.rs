@@ -12,6 +12,12 @@ mod raw {
     }
 
     #[repr(C)]
+    pub struct Fed {
+        pub code: u32,
+        pub feed: u64,
+    }
+
+    #[repr(C)]
     pub struct Job {
         pub code: u32,
         pub points: usize,
@@ -26,6 +32,7 @@ mod raw {
                     ring: *mut u16, ring_len: usize, index: *mut u16, index_len: usize, heads: *mut u16, heads_len: usize,
                     ends: *mut u64, ends_len: usize, links: *mut u64, links_len: usize, dense: *mut u16, dense_len: usize,
                     reverse: *mut u16, reverse_len: usize, free: *mut u16, free_len: usize) -> Answer;)*
+                pub fn tour_feed(n: usize, x: *const i32, x_len: usize, y: *const i32, y_len: usize, ring: *const u16, ring_len: usize) -> Fed;
                 pub safe fn tour_meets(a1x: i32, a1y: i32, a2x: i32, a2y: i32, b1x: i32, b1y: i32, b2x: i32, b2y: i32) -> u32;
                 pub fn tour_read_job(job: *const u8, job_len: usize, x: *mut i32, x_len: usize, y: *mut i32, y_len: usize,
                     picks: *mut u32, picks_len: usize) -> Job;
@@ -116,6 +123,13 @@ pub fn two_opt_moves(n: usize, x: &[i32], y: &[i32], picks: &[u32], lent: &mut B
 /// A loop through the first n points, starting from `lent.ring`.
 pub fn resolve_self_intersections(n: usize, x: &[i32], y: &[i32], picks: &[u32], lent: &mut Buffers) -> Answer {
     call!(tour_resolve_self_intersections, n, x, y, picks, lent)
+}
+
+/// The feed of the loop that the first n entries of the ring name; the error is the number of the refusal: 1 to 4.
+pub fn feed(n: usize, x: &[i32], y: &[i32], ring: &[u16]) -> Result<u64, u32> {
+    // SAFETY: as above.
+    let fed = unsafe { raw::tour_feed(n, x.as_ptr(), x.len(), y.as_ptr(), y.len(), ring.as_ptr(), ring.len()) };
+    if fed.code == 0 { Ok(fed.feed) } else { Err(fed.code) }
 }
 
 /// Whether two segments share a place that is not an end of both; the error is the number of the refusal.

@@ -8,6 +8,7 @@ The refusals of the job file, the rounding and the feed are computed here, from 
 original Rust answers: ORACLE is it, built as a program that reads one question on each line, `moves N x y .. M pick ..`, and
 answers on a line of its own: `error NAME`, or `ok` or `out` with the fields `ring`, `moves`, `cross`, `left` between bars.
 """
+import math
 import os
 import struct
 import subprocess
@@ -103,10 +104,9 @@ def ask(oracle, boards):
 
 
 def feed(points, ring):
-    return sum(
-        max(abs(points[a][0] - points[b][0]), abs(points[a][1] - points[b][1]))
-        for a, b in zip(ring, ring[1:] + ring[:1])
-    )
+    """Of each edge the greatest whole f with f*f at most dx*dx + dy*dy."""
+    square = lambda a, b: (points[a][0] - points[b][0]) ** 2 + (points[a][1] - points[b][1]) ** 2
+    return sum(math.isqrt(square(a, b)) for a, b in zip(ring, ring[1:] + ring[:1]))
 
 
 def text(points, answer):
@@ -229,6 +229,14 @@ def jobs():
     for points in ([(-5, 0), (-15, 45), (5, 25), (15, -35), (25, 5), (-25, -5), (45, -15)], spread(24, 21, 4000)):
         for image in with_mirror_images(points):
             yield job(image, draw(7, 300))
+    # the feed: 3 by 4 steps; squares one below and one above a square, and between two; the same loop from another start, and backwards
+    yield job([(0, 0), (30, 0), (30, 40)], [])
+    yield job([(0, 0), (20, 20), (0, 40)], [])
+    yield job([(0, 0), (30, -10), (20, 20)], [])
+    yield job([(0, 0), (70, 0), (100, 110), (-20, 90)], [])
+    around = [(0, 0), (75, -20), (130, 40), (90, 95), (-15, 80)]
+    for points in (around, around[2:] + around[:2], around[::-1]):
+        yield job(points, [])
     # 5: equal by rounding, and just not
     yield job([(0, 0), (100, 0), (4, 4), (0, 100)], [1])
     yield job([(0, 0), (100, 0), (5, 4), (0, 100)], [1])

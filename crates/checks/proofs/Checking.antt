@@ -1,14 +1,14 @@
 -- The checks in the order of the code are those of the definition.
 use mathlib.Core.Path.{_≡_, refl, sym, ap, _∙_}
 use mathlib.Core.Bool.{Bool, true, false, not, cond}
-use mathlib.Core.List.{List}
-use Prim.Native.Nat.{ℕ, _-_, _≤_, _<_}
+use mathlib.Core.List.{List, [], _∷_}
+use Prim.Native.Nat.{ℕ, zero, suc, _-_, _≤_, _<_}
 use native.Mathlib.Omega.{arith}
 use lib.Dec.{ltb}
 use lib.IntN.{ℤ}
-use lib.ListN.{length}
+use lib.ListN.{length, getD}
 use borrow.Author.Tests.{ltb-false}
-use Rattle.algebra.specs.Cases.{both, and-left, and-right, not-false, true-or-false}
+use Rattle.algebra.specs.Cases.{both, or-no-left, or-no-right, and-left, and-right, not-false, true-or-false}
 use Rattle.algebra.specs.Ranges.{allBelow, all-true, upFrom}
 use Rattle.geometry.specs.Plane.{Point, nearP, collinear, near}
 use Rattle.geometry.specs.Lent.{points, Lent, coord}
@@ -17,7 +17,7 @@ use Rattle.polygon.proofs.Index.{list-at, first-ring}
 use Rattle.polygon.proofs.EachOnce.{ring-each}
 use Rattle.machine.specs.Board.{straightLine}
 use Rattle.machine.specs.Answer.{inRange, noneAlike, refusal}
-use Rattle.checks.specs.Checks.{early, late}
+use Rattle.checks.specs.Checks.{anyBelow, early, firstFour, late}
 
 -- a part that starts at 0
 pub from-start : (n : ℕ) → n - 0 ≡ n
@@ -42,6 +42,20 @@ early-few false true b3 h = absurd (omega arith)
 early-few false false true h = absurd (omega arith)
 early-few false false false h = (refl, refl, refl)
 
+at-four : (b1 b2 b3 b4 : Bool) (k : ℕ) → 0 < one-to-three b1 b2 b3 (cond b4 4 0) → one-to-three b1 b2 b3 (cond b4 4 k) ≡ one-to-three b1 b2 b3 (cond b4 4 0)
+at-four true b2 b3 b4 k h = refl
+at-four false true b3 b4 k h = refl
+at-four false false true b4 k h = refl
+at-four false false false true k h = refl
+at-four false false false false k h = absurd (omega arith)
+
+four-few : (b1 b2 b3 b4 : Bool) → one-to-three b1 b2 b3 (cond b4 4 0) ≡ 0 → (one-to-three b1 b2 b3 0 ≡ 0) × (b4 ≡ false)
+four-few true b2 b3 b4 h = absurd (omega arith)
+four-few false true b3 b4 h = absurd (omega arith)
+four-few false false true b4 h = absurd (omega arith)
+four-few false false false true h = absurd (omega arith)
+four-few false false false false h = (refl, refl)
+
 at-late : (b5 b6 : Bool) (k : ℕ) → 0 < five-six b5 b6 0 → five-six b5 b6 k ≡ five-six b5 b6 0
 at-late true b6 k h = refl
 at-late false true k h = refl
@@ -62,13 +76,22 @@ module _ (n : ℕ) (pt : ℕ → Point) (s : Bool) (r : List ℕ) where
   pub refused-early : 0 < early n pt s → refusal n pt s r ≡ early n pt s
   refused-early = at-early (ltb 256 n) s (not (inRange n pt)) from-four
 
+  pub refused-four : 0 < firstFour n pt s r → refusal n pt s r ≡ firstFour n pt s r
+  refused-four = at-four (ltb 256 n) s (not (inRange n pt)) (not (eachOnce n r)) (five-six (not (noneAlike n pt)) (ltb n 3) line)
+
+  pub four-early : 0 < early n pt s → firstFour n pt s r ≡ early n pt s
+  four-early = at-early (ltb 256 n) s (not (inRange n pt)) (cond (not (eachOnce n r)) 4 0)
+
+  pub four-passed : firstFour n pt s r ≡ 0 → (early n pt s ≡ 0) × (eachOnce n r ≡ true)
+  four-passed h = let k = four-few (ltb 256 n) s (not (inRange n pt)) (not (eachOnce n r)) h in (k .0, not-false _ (k .1))
+
   -- the three first checks pass
   module _ (ok : early n pt s ≡ 0) where
+    pub four-rest : {b : Bool} → b ≡ eachOnce n r → firstFour n pt s r ≡ cond (not b) 4 0
+    four-rest e = let (a, b, c) = early-few (ltb 256 n) s (not (inRange n pt)) ok in (λ i. one-to-three (a i) (b i) (c i) (cond (not (sym e i)) 4 0))
+
     rest : refusal n pt s r ≡ from-four
     rest = let (a, b, c) = early-few (ltb 256 n) s (not (inRange n pt)) ok in (λ i. one-to-three (a i) (b i) (c i) from-four)
-
-    pub refused-ring : eachOnce n r ≡ false → refusal n pt s r ≡ 4
-    refused-ring h = rest ∙ ap (λ (t : Bool). cond (not t) 4 (five-six (not (noneAlike n pt)) (ltb n 3) line)) h
 
     module _ (each : eachOnce n r ≡ true) where
       passed : refusal n pt s r ≡ five-six (not (noneAlike n pt)) (ltb n 3) line
@@ -101,6 +124,12 @@ module _ (n : ℕ) (x y : List ℤ) (s : Bool) (ok : early n (points x y) s ≡ 
         nx = λ i l. and-left (near (coord x i)) (near (coord y i)) (all-true n (λ i. nearP (points x y i)) z i l);
         ny = λ i l. and-right (near (coord x i)) (near (coord y i)) (all-true n (λ i. nearP (points x y i)) z i l);
       }
+
+-- none of the lengths is below the size
+pub long : (size : ℕ) (ls : List ℕ) → anyBelow size ls ≡ false → (i : ℕ) → i < length ls → size ≤ getD ls i 0
+long size [] h i l = absurd (omega arith)
+long size (a ∷ ls) h zero l = ltb-false a size (or-no-left (ltb a size) (anyBelow size ls) h)
+long size (a ∷ ls) h (suc i) l = long size ls (or-no-right (ltb a size) (anyBelow size ls) h) i (omega arith)
 
 -- ---- the points in their own order
 pub in-order-once : (n : ℕ) → eachOnce n (upFrom 0 n) ≡ true

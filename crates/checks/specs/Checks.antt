@@ -4,6 +4,7 @@ use mathlib.Core.List.{List, [], _∷_}
 use Prim.Native.Nat.{ℕ, _-_, _*_}
 use lib.Dec.{ltb}
 use Rattle.geometry.specs.Plane.{Point}
+use Rattle.polygon.specs.Ring.{eachOnce}
 use Rattle.machine.specs.Answer.{inRange, noneAlike}
 
 -- one of the lengths is below size
@@ -18,6 +19,10 @@ short n ring-sized record-sized = anyBelow n ring-sized || anyBelow (n * (n - 1)
 -- checks 1, 2 and 3: the first that fails, or 0
 abbrev pub early : ℕ → (ℕ → Point) → Bool → ℕ
 early n pt s = cond (ltb 256 n) 1 (cond s 2 (cond (not (inRange n pt)) 3 0))
+
+-- checks 1 to 4 of the ring r
+abbrev pub firstFour : ℕ → (ℕ → Point) → Bool → List ℕ → ℕ
+firstFour n pt s r = cond (ltb 256 n) 1 (cond s 2 (cond (not (inRange n pt)) 3 (cond (not (eachOnce n r)) 4 0)))
 
 -- checks 5 and 6
 abbrev pub late : ℕ → (ℕ → Point) → ℕ

@@ -8,7 +8,7 @@ ghost use Rattle.algebra.specs.Ranges.{allBelow, upFrom};
 ghost use Rattle.geometry.specs.Lent.{points, Lent};
 ghost use Rattle.machine.specs.Board.{straightLine};
 ghost use Rattle.machine.specs.Answer.{refusal};
-ghost use Rattle.checks.specs.Checks.{short, early as earlyChecks, late as lateChecks};
+ghost use Rattle.checks.specs.Checks.{short, early as earlyChecks, firstFour, late as lateChecks};
 use super::start::all_colinear;
 use super::start::in_range;
 use super::start::none_alike;
@@ -66,6 +66,21 @@ fn early(n: usize, x: &[i32], y: &[i32], short: bool) -> u8
     }
     if !in_range(n, x, y) {
         return 3;
+    }
+    0
+}
+
+// Checks 1 to 4, of the first n entries of a lent ring.
+pub fn first_four(n: usize, x: &[i32], y: &[i32], ring: &[u16], short: bool) -> u8
+    requires { ⌜ (n ≤ 256 → short ≡ false → (n ≤ length (now x)) × (n ≤ length (now y)) × (n ≤ length (now ring))) ⌝ }
+    ensures { λ r. ⌜ r ≡ firstFour n (points (now (x .entry)) (now (y .entry))) short (take n (now (ring .entry))) ⌝ }
+{
+    let first = early(n, x, y, short);
+    if 0 < first {
+        return first;
+    }
+    if !each_once(&ring[0..n]) {
+        return 4;
     }
     0
 }
@@ -131,12 +146,9 @@ pub fn refusal_of_ring(n: usize, x: &[i32], y: &[i32], ring: &[u16], short: bool
     requires { ⌜ (n ≤ 256 → short ≡ false → (n ≤ length (now x)) × (n ≤ length (now y)) × (n ≤ length (now ring))) ⌝ }
     ensures { λ r. ⌜ r ≡ refusal n (points (now (x .entry)) (now (y .entry))) short (take n (now (ring .entry))) ⌝ }
 {
-    let first = early(n, x, y, short);
+    let first = first_four(n, x, y, ring, short);
     if 0 < first {
         return first;
-    }
-    if !each_once(&ring[0..n]) {
-        return 4;
     }
     let second = late(n, x, y);
     if 0 < second {

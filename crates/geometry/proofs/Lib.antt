@@ -7,6 +7,7 @@
 --   uncrossing: uncross (Places), laid-apart (Crossing)
 --   lines: collinear-trans (Places), three (Points); the order along a line: inside-decides (Lines), height-up, height-down (Height)
 --   the order of the two segments and of their ends does not matter: meets-swap, meets-rev (Symmetry)
+--   the square of a distance: distance-back, distance-small, distance-some (Distances)
 --   document 01's boards: rows-hold (Boards)
 pub mod Turns
 pub mod Points
@@ -18,6 +19,7 @@ pub mod Containing
 pub mod Meeting
 pub mod Height
 pub mod Reading
+pub mod Distances
 pub mod Ordering
 pub mod Choosing
 pub mod MeetingParts

@@ -1,15 +1,21 @@
--- Points of the plane, the turn of three points, and the order of points.
+-- Points of the plane, the turn of three points, how far apart two are, and the order of points.
 use mathlib.Core.Path.{_≡_}
 use mathlib.Core.Bool.{Bool, false, _&&_, _||_, cond}
 use mathlib.Core.Logic.{_⊎_}
+use Prim.Native.Nat.{ℕ, _+_, _*_}
 use lib.IntN.{ℤ, pos, negsuc, _-ℤ_, _*ℤ_}
 use lib.Signed.{leZ, ltZ, _<ℤ_}
 use lib.Dec.{eqb}
+use Rattle.algebra.specs.Size.{abs}
 pub use Rattle.algebra.specs.Identities.{Pair as Point}
 
 -- The turn of a, b, c: positive counter-clockwise, negative clockwise, zero collinear.
 abbrev pub turn : Point → Point → Point → ℤ
 turn a b c = (b .x -ℤ a .x) *ℤ (c .y -ℤ a .y) -ℤ (b .y -ℤ a .y) *ℤ (c .x -ℤ a .x)
+
+-- The square of the distance of a and b: dx×dx + dy×dy.
+unfoldable pub squaredDistance : Point → Point → ℕ
+squaredDistance a b = abs (a .x -ℤ b .x) * abs (a .x -ℤ b .x) + abs (a .y -ℤ b .y) * abs (a .y -ℤ b .y)
 
 -- Points order by x, then y.
 abbrev pub Before : Point → Point → Type 0

@@ -23,7 +23,7 @@ pub enum Oriented {
 }
 
 // a - b, in 64 bits.
-fn gap(a: i32, b: i32) -> i64
+pub fn gap(a: i32, b: i32) -> i64
     ensures { λ r. ⌜ r ≡ a -ℤ b ⌝ }
 {
     a as i64 - b as i64

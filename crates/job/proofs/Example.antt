@@ -3,6 +3,8 @@ use mathlib.Core.Path.{_≡_, refl}
 use mathlib.Core.List.{List, [], _∷_, _++_}
 use Prim.Native.Nat.{ℕ}
 use lib.IntN.{ℤ, pos}
+use Rattle.integer_root.specs.Root.{root, rootTo}
+use Rattle.geometry.specs.Plane.{squaredDistance}
 use Rattle.geometry.specs.Lent.{points}
 use Rattle.geometry.specs.Answers.{answered}
 use Rattle.job.specs.Ascii.{ascii}
@@ -12,7 +14,7 @@ use Rattle.job.specs.Buffers.{over}
 use Rattle.job.specs.Job.{xAt, yAt, pickAt, outside, sharesBytes, inRange, decide, refusal, accepted, answer}
 use Rattle.job.specs.Encoded.{header, pairs, jobOf}
 use Rattle.job.specs.Decimal.{digits, decimal, integer}
-use Rattle.job.specs.Feed.{reach, edgeFeed, feedTo}
+use Rattle.job.specs.Feed.{feedBetween, edgeFeed, feedTo}
 use Rattle.job.specs.Text.{summary, pointLine, pointLines, loopLines, reportText}
 use Rattle.job.specs.declared.report.Report.the-variants.{Delivered}
 
@@ -51,5 +53,5 @@ unfolding word bytesOf wordBytes
 read-pick = refl
 
 pub printed : reportText (points x y) (0 ∷ 2 ∷ 1 ∷ 3 ∷ []) (Delivered 1 1) ≡ ascii "ok 4 moves 1 cross 1 feed 40\n0 0\n10 0\n10 10\n0 10\n"
-unfolding reportText loopLines summary pointLines pointLine integer decimal digits feedTo edgeFeed reach
+unfolding reportText loopLines summary pointLines pointLine integer decimal digits feedTo edgeFeed feedBetween squaredDistance root rootTo
 printed = refl

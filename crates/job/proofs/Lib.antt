@@ -17,6 +17,8 @@ pub mod Mirrors
 -- The text of numbers, lines and answers
 pub mod Decimals
 pub mod Lines
+-- The feed of an edge and of a loop
 pub mod Feeds
+pub mod SameEdges
 -- The example of the job file's page
 pub mod Example

@@ -12,8 +12,6 @@ use mir.Syntax.{w32, w64}
 use mir.Val.{Fits, SFits, toZ, ofZ}
 use mir.ValLaws.{toZ-ofZ, toZ-pos}
 use borrow.Author.Tests.{ltb-true, lt-ltb, le-ltb}
-use Rattle.algebra.specs.Integers.{P, N}
-use Rattle.algebra.specs.Size.{abs-sub, fits-abs}
 use Rattle.job.specs.Words.{word, signed, bitsOf}
 
 -- ---- a word, by its highest bit
@@ -98,29 +96,6 @@ sized-above (negsuc n) z h e t = negative n e t
 
 pub small32 : (v : ℤ) → SFits w32 v → mag v < 2 ^ 33
 small32 v h = omega (arith, h .sfits)
-
--- ---- the difference of two 32-bit numbers, as the machine makes it in 64 bits
-mag-is : (z : ℤ) (n : ℕ) → P z + N z ≤ n → mag z ≤ n
-mag-is (pos m) n h = omega arith
-mag-is (negsuc m) n h = omega arith
-
-pub diff-mag : (a b : ℤ) → SFits w32 a → SFits w32 b → mag (a -ℤ b) ≤ 4294967296
-diff-mag a b h k = mag-is (a -ℤ b) 4294967296 (omega (arith, abs-sub a b, fits-abs w32 a h, fits-abs w32 b k))
-
-pub diff-size : (a b : ℤ) → SFits w32 a → SFits w32 b → natAbs (a -ℤ b) ≤ 4294967297
-diff-size a b h k = go (a -ℤ b) (diff-mag a b h k)
-  where
-    go : (z : ℤ) → mag z ≤ 4294967296 → natAbs z ≤ 4294967297
-    go (pos m) h = omega arith
-    go (negsuc m) h = omega arith
-
-pub diff-fits : (a b : ℤ) → SFits w32 a → SFits w32 b
-    → SFits w64 (toZ w64 (ofZ w64 (toZ w32 (ofZ w32 a))) -ℤ toZ w64 (ofZ w64 (toZ w32 (ofZ w32 b))))
-diff-fits a b h k = rw (reread a h, reread b k) (record { sfits = omega (arith, diff-mag a b h k) })
-
-pub diff-is : (a b : ℤ) → SFits w32 a → SFits w32 b
-    → toZ w64 (ofZ w64 (toZ w64 (ofZ w64 (toZ w32 (ofZ w32 a))) -ℤ toZ w64 (ofZ w64 (toZ w32 (ofZ w32 b))))) ≡ a -ℤ b
-diff-is a b h k = rw (reread a h, reread b k) (toZ-ofZ w64 (a -ℤ b) (record { sfits = omega (arith, diff-mag a b h k) }))
 
 -- ---- the bits of a number, by the machine's test of its sign
 pub bits-below : (v z : ℤ) (s : ℕ) → SFits w32 v → z ≡ v → ltZ z (pos 0) ≡ true → s ≡ natAbs z → (s ≤ 2147483648) × (1 ≤ s) × (4294967296 - s ≡ bitsOf v)

@@ -24,7 +24,7 @@ module _ (n : ℕ) (some : 0 < n) where
   pub whole-whole : (i : ℕ) → i < n → whole (whole i) ≡ i
   whole-whole i l = flip-flip n 0 (n - 1) some (omega arith) i l
 
-  whole-sum : (i : ℕ) → i < n → whole i + i ≡ n - 1
+  pub whole-sum : (i : ℕ) → i < n → whole i + i ≡ n - 1
   whole-sum i l =
       omega (arith, dist-0 i, dist-0 (n - 1), dist-0 (whole i), flip-in n 0 (n - 1) some (omega arith) i (omega (arith, dist-0 i, dist-0 (n - 1))))
 
@@ -52,7 +52,7 @@ module _ (n : ℕ) (some : 0 < n) where
     pub back-ring : IsRing n r → IsRing n (turnedRound n r)
     back-ring ring = reversed-ring n r 0 (n - 1) some (omega arith) ring
 
-    back-edge : (i : ℕ) → i < n → edgeAt n (turnedRound n r) i ≡ edgeAt n r (prev n (whole i))
+    pub back-edge : (i : ℕ) → i < n → edgeAt n (turnedRound n r) i ≡ edgeAt n r (prev n (whole i))
     back-edge i l =
         moved-edge-back n whole r i l (prev n (whole i)) (whole i) refl (whole-next i l)
         ∙ ap (λ y. edge (at r (prev n (whole i))) (at r y)) (sym (next-prev n (whole i) (whole-lt i l)))

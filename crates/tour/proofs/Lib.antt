@@ -1,6 +1,6 @@
 -- The example of the job file's page
 pub mod Example
--- A delivered loop can be told
+-- What holds of a delivered loop
 pub mod Delivered
 -- The buffers behind the reader
 pub mod Jobs

@@ -2,13 +2,13 @@
 use mathlib.Core.Path.{_≡_, refl, sym, ap, _∙_, subst, subst⁻¹}
 use mathlib.Core.Bool.{Bool, true, false, cond}
 use mathlib.Core.List.{List, [], _∷_, _++_}
-use Prim.Native.Nat.{ℕ, zero, suc, _-_, _*_, _≤_, _<_}
+use Prim.Native.Nat.{ℕ, _-_, _*_, _≤_, _<_}
 use native.Mathlib.Omega.{arith}
-use lib.Dec.{eqb, ltb}
+use lib.Dec.{eqb}
 use lib.IntN.{ℤ}
 use lib.ListN.{length, getD, take, drop, length-append, length-drop}
 use lib.Seq.{length-take-le}
-use borrow.Author.Tests.{ltb-false, ne-eqb}
+use borrow.Author.Tests.{ne-eqb}
 use Rattle.algebra.specs.Cases.{or-no-left, or-no-right, and-left, and-right}
 use Rattle.geometry.specs.Plane.{Point, near}
 use Rattle.geometry.specs.Lent.{points, Lent, coord}
@@ -22,7 +22,7 @@ use Rattle.resolve.specs.Ended.{Counted, lastRing, Ended}
 use Rattle.checks.specs.Checks.{anyBelow, short}
 use Rattle.two_opt.specs.Entry.{answerOf, Loan, loan, each, front, past, ringSized, recordSized, shortOf, Holding, Ran, Entry}
 use Rattle.two_opt.specs.declared.entries.Answer.{Answer as Answered}
-use Rattle.checks.proofs.Checking.{from-start}
+use Rattle.checks.proofs.Checking.{from-start, long}
 
 -- ---- a call that is refused
 pub refused-entry : (n : ℕ) (x y : List ℤ) (r cs : List ℕ) (l : Loan) {k : ℕ} → k ≡ refusal n (points x y) (shortOf n x y l) r → 0 < k → Entry n x y r cs l l (refused k)
@@ -36,11 +36,6 @@ refused-entry n x y r cs l is some =
     }
 
 -- ---- the lengths, where check 2 passes
-long : (size : ℕ) (ls : List ℕ) → anyBelow size ls ≡ false → (i : ℕ) → i < length ls → size ≤ getD ls i 0
-long size [] h i l = absurd (omega arith)
-long size (a ∷ ls) h zero l = ltb-false a size (or-no-left (ltb a size) (anyBelow size ls) h)
-long size (a ∷ ls) h (suc i) l = long size ls (or-no-right (ltb a size) (anyBelow size ls) h) i (omega arith)
-
 module _ (n : ℕ) (x y : List ℤ) (l : Loan) (h : shortOf n x y l ≡ false) where
   ring-long : (i : ℕ) → i < 4 → n ≤ getD (ringSized x y l) i 0
   ring-long = long n (ringSized x y l) (or-no-left (anyBelow n (ringSized x y l)) (anyBelow (n * (n - 1)) (recordSized (l .records))) h)

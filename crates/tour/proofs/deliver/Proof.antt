@@ -9,7 +9,8 @@ use Rattle.job.specs.Buffers.{Put}
 use Rattle.tour.specs.Printed.{told}
 use denote.Ref.{now}
 use Rattle.two_opt.specs.Entry.{answerOf}
-use Rattle.tour.proofs.Delivered.{delivered-ring, ring-drawn}
+use Rattle.tour.proofs.Delivered.{delivered-ring}
+use Rattle.job.proofs.Feeds.{ring-drawn}
 use Rattle.tour.proofs.Room.{cramped, roomy}
 use borrow.Author.Needs.{needs}
 use Rattle.tour.proofs.deliver.Statement.{statement}

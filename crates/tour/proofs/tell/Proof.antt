@@ -1,9 +1,10 @@
 -- `tell` meets its contract, arm by arm: the report's text is that of the answer.
-use mathlib.Core.Path.{_≡_}
+use mathlib.Core.Path.{_≡_, refl}
 use Prim.Native.Nat.{_-_}
 use native.Mathlib.Omega.{arith}
 use lib.ListN.{length-take}
 use Rattle.job.specs.Text.{reportText}
+use Rattle.job.proofs.Feeds.{drawn-empty}
 use Rattle.tour.specs.Printed.{told}
 use borrow.Author.Needs.{needs}
 use Rattle.tour.proofs.tell.Statement.{statement}
@@ -40,7 +41,7 @@ part-put-report-end-2 : tie.Need-part-put-report-end-2
 part-put-report-end-2 c = search needs
 
 put-report-requires-2 : tie.Need-put-report-requires-2
-put-report-requires-2 c κs = search needs
+put-report-requires-2 c κs = (drawn-empty _ _ _ refl, omega arith)
 
 enum-known-a-3 : tie.Need-enum-known-a-3
 enum-known-a-3 c = search needs
@@ -55,7 +56,7 @@ part-put-report-end-3 : tie.Need-part-put-report-end-3
 part-put-report-end-3 c = search needs
 
 put-report-requires-3 : tie.Need-put-report-requires-3
-put-report-requires-3 c κs = search needs
+put-report-requires-3 c κs = (drawn-empty _ _ _ refl, omega arith)
 
 same-length : tie.Need-same-length
 same-length c = search needs

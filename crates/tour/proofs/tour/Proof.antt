@@ -3,6 +3,7 @@ use mathlib.Core.Path.{_≡_, refl}
 use Prim.Native.Nat.{_-_}
 use native.Mathlib.Omega.{arith}
 use Rattle.job.specs.Text.{reportText}
+use Rattle.job.proofs.Feeds.{drawn-empty}
 use Rattle.job.proofs.ReadJobs.{was-read, was-refused, read-lent}
 use Rattle.tour.proofs.Jobs.{refused-printed, read-printed}
 use borrow.Author.Needs.{needs}
@@ -34,7 +35,7 @@ slice-aggregate-put-report-3 : tie.Need-slice-aggregate-put-report-3
 slice-aggregate-put-report-3 c = search needs
 
 put-report-requires : tie.Need-put-report-requires
-put-report-requires c κs = search needs
+put-report-requires c κs = (drawn-empty _ _ _ refl, omega arith)
 
 enum-known-points : tie.Need-enum-known-points
 enum-known-points c = search needs

@@ -1,4 +1,4 @@
--- `feed` meets its contract. The invariant: the sum of the first i edges, each below 2³³.
+-- `feed` meets its contract. The invariant: the sum of the first i edges, each below 2,828,427,125.
 use mathlib.Core.Path.{_≡_, sym, ap, _∙_}
 use Prim.Native.Nat.{_-_, _*_, _≤_}
 use native.Mathlib.Omega.{arith}
@@ -11,7 +11,7 @@ use Rattle.job.proofs.feed.feed.Statement.{statement}
 use Rattle.job.proofs.feed.feed.Tie as tie
 
 abbrev Inv-loop : tie.InvT-loop
-Inv-loop x y ring sum₀ i₀ sum i = (i ≤ length ring) × (sum ≤ 8589934592 * i) × (sum ≡ feedTo (points x y) ring i)
+Inv-loop x y ring sum₀ i₀ sum i = (i ≤ length ring) × (sum ≤ 2828427124 * i) × (sum ≡ feedTo (points x y) ring i)
 
 abbrev μ-loop : tie.MeasureT-loop
 μ-loop x y ring sum₀ i₀ sum i = length ring - i

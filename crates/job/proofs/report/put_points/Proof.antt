@@ -39,13 +39,13 @@ mul-put-point : tie.Need-mul-put-point Inv-loop μ-loop
 mul-put-point c = omega (arith, c .shared-slice-known2 .given (c .before .before .loop .i))
 
 shared-slice-copy-out-put-point : tie.Need-shared-slice-copy-out-put-point Inv-loop μ-loop
-shared-slice-copy-out-put-point c = c .before .before .before .before .before .pre .0 .lx (c .before .before .loop .i) (c .before .loop-test .taken)
+shared-slice-copy-out-put-point c = c .before .before .before .before .before .pre .0 .here (c .before .before .loop .i) (c .before .loop-test .taken) .lx
 
 mul-put-point-2 : tie.Need-mul-put-point-2 Inv-loop μ-loop
 mul-put-point-2 c = omega (arith, c .before .shared-slice-known2 .given (c .before .before .before .loop .i))
 
 shared-slice-copy-out-put-point-2 : tie.Need-shared-slice-copy-out-put-point-2 Inv-loop μ-loop
-shared-slice-copy-out-put-point-2 c = c .before .before .before .before .before .before .pre .0 .ly (c .before .before .before .loop .i) (c .before .before .loop-test .taken)
+shared-slice-copy-out-put-point-2 c = c .before .before .before .before .before .before .pre .0 .here (c .before .before .before .loop .i) (c .before .before .loop-test .taken) .ly
 
 put-point-requires : tie.Need-put-point-requires Inv-loop μ-loop
 put-point-requires c κs =
