@@ -1,4 +1,4 @@
--- The feed of a loop: the sum over its edges, each metered along the line.
+-- Feed: of an edge, metered along the line; of a loop, the sum over its edges.
 use mathlib.Core.Path.{_≡_}
 use mathlib.Core.List.{List, _++_}
 use Prim.Native.Nat.{ℕ, zero, suc, _+_, _≤_, _<_}
@@ -29,6 +29,7 @@ unfoldable pub feedTo : (ℕ → Point) → List ℕ → ℕ → ℕ
 feedTo pt ring zero = 0
 feedTo pt ring (suc k) = feedTo pt ring k + edgeFeed pt ring k
 
+-- The feed of a loop.
 abbrev pub feedOf : (ℕ → Point) → List ℕ → ℕ
 feedOf pt ring = feedTo pt ring (length ring)
 
