@@ -50,6 +50,6 @@ module _ (n : ℕ) (pt : ℕ → Point) (short : Bool) (r cs : List ℕ) {l : Li
       let b = accepted n pt short r .0 none-refused .board in
       edge-some n pt l (omega (arith, b .three)) delivered-ring (b .distinct)
 
--- the smallest board with such an edge is refused
+-- a board with such an edge is refused
 pub equal-ends : call 3 (points (pos 0 ∷ pos 0 ∷ pos 1 ∷ []) (pos 0 ∷ pos 0 ∷ pos 0 ∷ [])) false (upFrom 0 3) [] ≡ refused 5
 equal-ends = refl
