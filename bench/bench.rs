@@ -31,6 +31,13 @@ struct Board {
     picks: Vec<u32>,
 }
 
+impl Board {
+    /// The points as a call is lent them: their x, and their y.
+    fn columns(&self) -> [Vec<i32>; 2] {
+        [0, 1].map(|k| self.points.iter().map(|p| p[k]).collect())
+    }
+}
+
 /// `uniform`: anywhere in the allowed square. `row`: all on one line but two. Both in random order.
 fn board(make: &str, n: usize, seed: u32) -> Board {
     let mut r = Lcg(seed);
@@ -74,8 +81,7 @@ fn measure(make: &str, n: usize) -> Line {
     let (boards, runs) = if n < 128 { (8, 9) } else { (4, 5) };
     for seed in 0..boards {
         let b = board(make, n, 7919 * seed + n as u32);
-        let x: Vec<i32> = b.points.iter().map(|p| p[0]).collect();
-        let y: Vec<i32> = b.points.iter().map(|p| p[1]).collect();
+        let [x, y] = b.columns();
         let mut lent = Buffers::new(n);
         let mut answer = Answer::Refused(0);
         let ours = least_time(runs, || answer = tour::two_opt_moves(n, black_box(&x), black_box(&y), &b.picks, &mut lent));
@@ -97,8 +103,7 @@ fn measure(make: &str, n: usize) -> Line {
 /// ring's last entry, so that the difference is the feed's own.
 fn measure_feed(n: usize) -> [u128; 2] {
     let b = board("uniform", n, 1);
-    let x: Vec<i32> = b.points.iter().map(|p| p[0]).collect();
-    let y: Vec<i32> = b.points.iter().map(|p| p[1]).collect();
+    let [x, y] = b.columns();
     let ring: Vec<u16> = (0..n as u16).collect();
     let mut named_twice = ring.clone();
     named_twice[n - 1] = ring[n - 2];
@@ -131,8 +136,7 @@ fn stack_of_call(n: usize, x: &[i32], y: &[i32], picks: &[u32], lent: &mut Buffe
 fn stack_used(n: usize) -> usize {
     let used = move |make, seed| {
         let b = board(make, n, seed);
-        let x: Vec<i32> = b.points.iter().map(|p| p[0]).collect();
-        let y: Vec<i32> = b.points.iter().map(|p| p[1]).collect();
+        let [x, y] = b.columns();
         stack_of_call(n, &x, &y, &b.picks, &mut Buffers::new(n))
     };
     let deepest = move || MAKES.iter().flat_map(|make| (0..4).map(move |seed| used(make, seed))).max().unwrap();

@@ -1,7 +1,6 @@
 -- Newton's step: the mean of x and v / x is not below the root of v, and where it is no less than x, x is not above it.
 use mathlib.Core.Path.{_≡_}
-use mathlib.Core.Logic.{_≢_}
-use Prim.Native.Nat.{ℕ, zero, suc, _+_, _-_, _*_, _/_, _≤_, _<_}
+use Prim.Native.Nat.{ℕ, _+_, _-_, _*_, _/_, _≤_, _<_}
 use native.Mathlib.Omega.{arith}
 use native.Mathlib.Nat.{div-add-mod', mod-lt}
 use Rattle.algebra.specs.Cases.{both, le-cases}
@@ -16,11 +15,6 @@ means a b =
   where
     apart : (a d : ℕ) → 4 * (a * (a + d)) ≤ (a + (a + d)) * (a + (a + d))
     apart a d = omega arith
-
--- what is not below the root of a number that is not 0
-pub root-some : (v t : ℕ) → v ≢ 0 → v < (t + 1) * (t + 1) → 1 ≤ t
-root-some v zero n h = absurd (omega (arith, n, h))
-root-some v (suc t) n h = omega arith
 
 module _ (v x : ℕ) (some : 1 ≤ x) where
   quotient : (v / x * x ≤ v) × (v < (v / x + 1) * x)

@@ -29,14 +29,13 @@ fn step(v: u64, x: u64) -> u64
 pub fn integer_root(v: u64) -> u64
     ensures { λ r. ⌜ r ≡ root v ⌝ }
 {
-    if v == 0 {
-        return 0;
-    }
     let mut x = above(v);
-    let mut y = step(v, x);
-    while y < x {
+    while 0 < x {
+        let y = step(v, x);
+        if x <= y {
+            return x;
+        }
         x = y;
-        y = step(v, x);
     }
-    x
+    0
 }
