@@ -114,6 +114,13 @@ fn measure_feed(n: usize) -> [u128; 2] {
     [ring, named_twice].map(|r| least_time(999, || _ = black_box(tour::feed(n, black_box(&x), black_box(&y), &r))))
 }
 
+/// The time of check 4 of n points, which reads the whole ring.
+fn measure_ring(n: usize) -> u128 {
+    let ring: Vec<u16> = (0..n as u16).rev().collect();
+    assert_eq!(tour::ring_fault(n, &ring), Ok(None));
+    least_time(999, || _ = black_box(tour::ring_fault(n, black_box(&ring))))
+}
+
 const DEPTH: usize = 1 << 20;
 const OWN: usize = 512;
 const PAINT: u8 = 0xa5;
@@ -164,6 +171,7 @@ fn main() {
     }
     let [fed, refused] = measure_feed(256).map(|t| t as f64 / 1e3);
     println!("\nfeed of 256 points: {fed:.1} us, its checks {refused:.1} us, the roots and their sum {:.1} us", fed - refused);
+    println!("\ncheck 4 of 256 points: {:.2} us", measure_ring(256) as f64 / 1e3);
     println!("\nmemory of a call in bytes: lent (x, y, ring, index, six buffers of n*(n-1)), picks aside; stack");
     for n in [48, 256] {
         println!("n {n:3}: lent {:8} stack {:6}", n * 12 + 24 * n * (n - 1), stack_used(n));

@@ -39,6 +39,12 @@ static void show_list(size_t n, unsigned a, unsigned b) {
     printf("\n");
 }
 
+/* Where the first n entries of a ring of four are wrong. */
+static void show_fault(const char *title, size_t n, const uint16_t *of) {
+    tour_fault f = tour_ring_fault(n, of, 4);
+    printf("%s: code %u position %zu\n", title, (unsigned)f.code, f.position);
+}
+
 /* The feed of the first n entries of a ring of four over a board of 3 by 4 steps. */
 static void show_feed(const char *title, size_t n, const int32_t *x, size_t x_len, const uint16_t *of) {
     tour_fed f = tour_feed(n, x, x_len, (int32_t[]){0, 0, 4, 4}, 4, of, 4);
@@ -85,6 +91,12 @@ int main(void) {
     show("a row, one pick", 7, call(0, 7, row_x, row_y, (uint32_t[]){0}, 1, PAIRS));
     show_list(7, 1, 4);
     printf("past the ring: %u\n", ring[N]);
+
+    show_fault("ring", 4, (uint16_t[]){0, 2, 1, 3});
+    show_fault("ring, a point named again", 4, (uint16_t[]){0, 2, 2, 3});
+    show_fault("ring, no point's number", 4, (uint16_t[]){0, 4, 1, 3});
+    show_fault("ring, too many points", 257, (uint16_t[]){0, 2, 1, 3});
+    show_fault("ring, short buffer", 5, (uint16_t[]){0, 2, 1, 3});
 
     static const int32_t wide[] = {0, 3, 3, 0}, too_wide[] = {0, 3, 3, 1000000001};
     show_feed("feed around", 4, wide, 4, (uint16_t[]){0, 1, 2, 3});

@@ -71,6 +71,21 @@ fn main() {
     println!("  1-4 meets{}", meeting.concat());
     println!("past the ring: {}", lent.ring[8]);
 
+    for (title, n, ring) in [
+        ("ring", 4, [0, 2, 1, 3]),
+        ("ring, a point named again", 4, [0, 2, 2, 3]),
+        ("ring, no point's number", 4, [0, 4, 1, 3]),
+        ("ring, too many points", 257, [0, 2, 1, 3]),
+        ("ring, short buffer", 5, [0, 2, 1, 3]),
+    ] {
+        let (code, position) = match tour::ring_fault(n, &ring) {
+            Ok(None) => (0, 0),
+            Ok(Some(position)) => (4, position),
+            Err(code) => (code, 0),
+        };
+        println!("{title}: code {code} position {position}");
+    }
+
     let (wide, too_wide, y) = ([0, 3, 3, 0], [0, 3, 3, 1_000_000_001], [0, 0, 4, 4]);
     for (title, n, x, ring) in [
         ("feed around", 4, &wide[..], [0, 1, 2, 3]),

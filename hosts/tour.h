@@ -7,7 +7,7 @@
  *    1  more than 256 points
  *    2  a buffer shorter than the call needs
  *    3  a coordinate outside -1000000000 .. 1000000000, or a bare segment with equal ends
- *    4  a lent ring that does not name each point once
+ *    4  a lent ring that does not name each point once (tour_ring_fault tells which entry is wrong)
  *    5  two equal points          6  fewer than three points          7  every vertex on one line with its neighbours
  *    8  the picks are used up and records are left: ring and work buffers hold the state
  *    9  a job shorter than 20 or longer than 16384 bytes              10  a total word that is not that length
@@ -64,6 +64,16 @@ tour_answer tour_two_opt_moves(TOUR_WORK);
 
 /* A loop through the points, starting from the lent ring. */
 tour_answer tour_resolve_self_intersections(TOUR_WORK);
+
+/* code 0: the ring names each point once. code 4: position is that of its first entry that is n or more or repeats an earlier one.
+ * Any other code: a refusal (1 or 2). What a code does not name is 0. */
+typedef struct {
+    uint32_t code;
+    size_t position;
+} tour_fault;
+
+/* Where ring[0 .. n-1] is wrong, as check 4 reads it. ring needs n elements and is only read. */
+tour_fault tour_ring_fault(size_t n, const uint16_t *ring, size_t ring_len);
 
 /* code 0: the feed, in steps. Any other code: a refusal (1 to 4), and feed is 0. */
 typedef struct {

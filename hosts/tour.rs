@@ -12,6 +12,12 @@ mod raw {
     }
 
     #[repr(C)]
+    pub struct Fault {
+        pub code: u32,
+        pub position: usize,
+    }
+
+    #[repr(C)]
     pub struct Fed {
         pub code: u32,
         pub feed: u64,
@@ -32,6 +38,7 @@ mod raw {
                     ring: *mut u16, ring_len: usize, index: *mut u16, index_len: usize, heads: *mut u16, heads_len: usize,
                     ends: *mut u64, ends_len: usize, links: *mut u64, links_len: usize, dense: *mut u16, dense_len: usize,
                     reverse: *mut u16, reverse_len: usize, free: *mut u16, free_len: usize) -> Answer;)*
+                pub fn tour_ring_fault(n: usize, ring: *const u16, ring_len: usize) -> Fault;
                 pub fn tour_feed(n: usize, x: *const i32, x_len: usize, y: *const i32, y_len: usize, ring: *const u16, ring_len: usize) -> Fed;
                 pub safe fn tour_meets(a1x: i32, a1y: i32, a2x: i32, a2y: i32, b1x: i32, b1y: i32, b2x: i32, b2y: i32) -> u32;
                 pub fn tour_read_job(job: *const u8, job_len: usize, x: *mut i32, x_len: usize, y: *mut i32, y_len: usize,
@@ -123,6 +130,18 @@ pub fn two_opt_moves(n: usize, x: &[i32], y: &[i32], picks: &[u32], lent: &mut B
 /// A loop through the first n points, starting from `lent.ring`.
 pub fn resolve_self_intersections(n: usize, x: &[i32], y: &[i32], picks: &[u32], lent: &mut Buffers) -> Answer {
     call!(tour_resolve_self_intersections, n, x, y, picks, lent)
+}
+
+/// The position of the first entry of the ring's first n that is n or more or repeats an earlier one; `None` where each point is named once. The
+/// error is the number of the refusal: 1 or 2.
+pub fn ring_fault(n: usize, ring: &[u16]) -> Result<Option<usize>, u32> {
+    // SAFETY: as above.
+    let fault = unsafe { raw::tour_ring_fault(n, ring.as_ptr(), ring.len()) };
+    match fault.code {
+        0 => Ok(None),
+        4 => Ok(Some(fault.position)),
+        code => Err(code),
+    }
 }
 
 /// The feed of the loop that the first n entries of the ring name; the error is the number of the refusal: 1 to 4.

@@ -1,12 +1,14 @@
 -- What hosts are told: each answer in numbers.
 use mathlib.Core.Bool.{Bool, true, false, cond}
 use mathlib.Core.List.{List, [], _∷_}
+use mathlib.Core.Option.{Option, none, some}
 use Prim.Native.Nat.{ℕ}
-use lib.Dec.{eqb}
+use lib.Dec.{eqb, ltb}
 use lib.IntN.{ℤ}
 use lib.ListN.{length, take}
 use Rattle.geometry.specs.Lent.{points}
 use Rattle.geometry.specs.Answers.{Answer as Told, refused as denied, answered}
+use Rattle.polygon.specs.Ring.{firstFault}
 use Rattle.machine.specs.Answer.{Answer, refused, unfinished, delivered}
 use Rattle.checks.specs.Checks.{anyBelow, firstFour}
 use Rattle.job.specs.Job.{Counts}
@@ -14,6 +16,7 @@ use Rattle.job.specs.Feed.{feedOf}
 use Rattle.host.specs.declared.loops.TourAnswer.{TourAnswer}
 use Rattle.host.specs.declared.job_file.TourJob.{TourJob}
 use Rattle.host.specs.declared.loop_feed.TourFeed.{TourFeed}
+use Rattle.host.specs.declared.ring_fault.TourFault.{TourFault}
 
 -- 0 for a delivered loop, else the number of the refusal, with the counts that belong to it
 abbrev pub inNumbers : Answer → TourAnswer
@@ -42,3 +45,13 @@ fed n x y ring =
 abbrev pub feedInNumbers : Told ℕ → TourFeed
 feedInNumbers (answered feed) = record { code = 0; feed = feed }
 feedInNumbers (denied number) = record { code = number; feed = 0 }
+
+-- What is told of a lent ring: the first of its first n entries that is at fault, if one is; or the first of the checks 1 and 2 that fails.
+unfoldable pub ringFault : ℕ → List ℕ → Told (Option ℕ)
+ringFault n ring = cond (ltb 256 n) (denied 1) (cond (ltb (length ring) n) (denied 2) (answered (firstFault n (take n ring))))
+
+-- 0 where no entry is at fault, 4 with the position of the first that is, else the number of the refusal
+abbrev pub faultInNumbers : Told (Option ℕ) → TourFault
+faultInNumbers (answered none) = record { code = 0; position = 0 }
+faultInNumbers (answered (some position)) = record { code = 4; position = position }
+faultInNumbers (denied number) = record { code = number; position = 0 }

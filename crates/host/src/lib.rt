@@ -4,3 +4,4 @@ pub mod job_file;
 pub mod loop_feed;
 pub mod loops;
 pub mod meeting;
+pub mod ring_fault;

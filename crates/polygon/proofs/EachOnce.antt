@@ -1,16 +1,18 @@
--- A ring names each point once: every point stands somewhere on it, and the test `eachOnce` decides it.
-use mathlib.Core.Path.{_≡_, sym}
-use mathlib.Core.Bool.{Bool, true, not, cond}
+-- A ring names each point once: every point stands somewhere on it, and the test `eachOnce`, that no entry is at fault, decides it.
+use mathlib.Core.Path.{_≡_, refl, sym, subst, ap}
+use mathlib.Core.Bool.{true, cond}
 use mathlib.Core.List.{List}
 use mathlib.Core.Logic.{_⊎_, inl, inr, _≢_, _↔_}
+use mathlib.Core.Option.{Option, none, some}
 use Prim.Native.Nat.{ℕ, zero, suc, _<_}
 use native.Mathlib.Omega.{arith}
-use lib.Dec.{eqb, ltb}
+use lib.Dec.{eqb}
 use lib.ListN.{length}
-use borrow.Author.Tests.{ltb-true, lt-ltb, eqb-true, eq-eqb, ne-eqb}
-use Rattle.algebra.specs.Cases.{both, eq-cases, never, and-left, and-right}
-use Rattle.algebra.specs.Ranges.{allBelow, all-true, true-all, by-order}
-use Rattle.polygon.specs.Ring.{at, IsRing, named, eachOnce}
+use borrow.Author.Tests.{eqb-true, eq-eqb}
+use Rattle.algebra.specs.Cases.{both, le-cases, eq-cases, never, and-left, and-right}
+use Rattle.algebra.specs.Ranges.{by-order}
+use Rattle.polygon.specs.Ring.{at, IsRing, FirstFault, firstFault, isNone, eachOnce}
+use Rattle.polygon.proofs.FirstFault.{first-is, first-only}
 
 -- ---- n different numbers below n are all of them
 -- f on the numbers below n, with f n for n, so that it stays below n
@@ -51,24 +53,37 @@ ring-has {n} {r} ring v l = onto n (at r) (ring .below) (ring .apart) v l
 
 -- ---- the test `eachOnce`
 module _ (n : ℕ) (r : List ℕ) where
-  pub each-ring : eachOnce n r ≡ true → IsRing n r
-  each-ring h =
-      let all = all-true n (named n r) (and-right (eqb (length r) n) _ h) in
+  -- no entry of a ring is at fault, and n entries of which none is are a ring
+  ring-right : IsRing n r → FirstFault n r none
+  ring-right ring i l f =
+      both f
+      (λ g. (let b = ring .below i l in omega (arith, b, g)))
+      (λ g. (let (j, k, e) = g in let z = ring .apart j i (omega (arith, k, l)) l e in omega (arith, z, k)))
+
+  right-ring : length r ≡ n → FirstFault n r none → IsRing n r
+  right-ring e right =
       record {
-        len = eqb-true (length r) n (and-left (eqb (length r) n) _ h);
-        below = λ i l. ltb-true (at r i) n (and-left (ltb (at r i) n) _ (all i l));
-        apart = by-order n (λ i j. at r i ≡ at r j) (λ i j e. sym e)
-            (λ i j ji l e. never (not (eqb (at r j) (at r i))) (all-true i (λ j. not (eqb (at r j) (at r i))) (and-right (ltb (at r i) n) _ (all i l)) j ji) (rw (eq-eqb (at r j) (at r i) e)));
+        len = e;
+        below = λ i l. both (le-cases n (at r i)) (λ g. absurd (right i l (inl (g .0)))) (λ g. g .0);
+        apart = by-order n (λ i j. at r i ≡ at r j) (λ i j e. sym e) (λ i j ji l e. right i l (inr (j, ji, e)));
       }
 
-  pub ring-each : IsRing n r → eachOnce n r ≡ true
-  ring-each ring =
-      rw (eq-eqb (length r) n (ring .len))
-      (true-all n (named n r) (λ i l. rw (lt-ltb (at r i) n (ring .below i l))
-      (true-all i _ (λ j k. rw (ne-eqb (at r j) (at r i) (λ e. (let z = ring .apart j i (omega arith) l e in omega arith)))))))
+  -- None exactly when each point is named once.
+  pub none-decides : length r ≡ n → (firstFault n r ≡ none) ↔ IsRing n r
+  none-decides e = (λ h. right-ring e (subst (FirstFault n r) h (first-is n r)), λ ring. sym (first-only n r none (ring-right ring)))
 
-  pub each-below : {b : Bool} → length r ≡ n → b ≡ allBelow n (named n r) → b ≡ eachOnce n r
-  each-below e h = rw (eq-eqb (length r) n e) h
+  pub each-below : {o : Option ℕ} → length r ≡ n → o ≡ firstFault n r → isNone o ≡ eachOnce n r
+  each-below e h = rw (eq-eqb (length r) n e) (ap isNone h)
+
+  is-none : (o : Option ℕ) → isNone o ≡ true → o ≡ none
+  is-none none h = refl
+  is-none (some i) h = never (isNone (some i)) h refl
+
+  pub each-ring : eachOnce n r ≡ true → IsRing n r
+  each-ring h = none-decides (eqb-true (length r) n (and-left (eqb (length r) n) _ h)) .0 (is-none (firstFault n r) (and-right (eqb (length r) n) _ h))
+
+  pub ring-each : IsRing n r → eachOnce n r ≡ true
+  ring-each ring = rw (eq-eqb (length r) n (ring .len), none-decides (ring .len) .1 ring) refl
 
   pub each-once-decides : (eachOnce n r ≡ true) ↔ IsRing n r
   each-once-decides = (each-ring, ring-each)

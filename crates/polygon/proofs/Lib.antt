@@ -1,5 +1,6 @@
 pub mod Positions
 pub mod RingEdges
+pub mod FirstFault
 pub mod EachOnce
 pub mod InPlace
 pub mod Reverser

@@ -1,12 +1,13 @@
 -- The ring: point numbers by position, the position index that inverts it, and the two ways in which a move changes it.
 use mathlib.Core.Path.{_≡_}
-use mathlib.Core.Bool.{Bool, not, _&&_, cond}
+use mathlib.Core.Bool.{Bool, true, false, _&&_, _||_, cond}
 use mathlib.Core.List.{List, [], _∷_, map}
 use mathlib.Core.Logic.{_⊎_}
+use mathlib.Core.Option.{Option, none, some}
 use Prim.Native.Nat.{ℕ, zero, suc, _+_, _-_, _≤_, _<_}
-use lib.Dec.{eqb, leb, ltb}
+use lib.Dec.{eqb, leb}
 use lib.ListN.{length, getD, set}
-use Rattle.algebra.specs.Ranges.{upFrom, allBelow}
+use Rattle.algebra.specs.Ranges.{upFrom, someBelow, leastFrom}
 
 -- ---- positions of a ring of n points
 -- one place on, wrapping
@@ -30,7 +31,7 @@ abbrev pub stretch : ℕ → ℕ → ℕ → List ℕ
 stretch n i zero = []
 stretch n i (suc k) = i ∷ stretch n (next n i) k
 
--- ---- the ring and its index
+-- ---- the ring
 -- the point number at a position
 abbrev pub at : List ℕ → ℕ → ℕ
 at r i = getD r i 0
@@ -41,18 +42,34 @@ pub record IsRing (n : ℕ) (r : List ℕ) : Type 0 where
   pub below : (i : ℕ) → i < n → at r i < n
   pub apart : (i j : ℕ) → i < n → j < n → at r i ≡ at r j → i ≡ j
 
--- the number at i is none of those before it
-abbrev pub fresh : List ℕ → ℕ → Bool
-fresh r i = allBelow i (λ j. not (eqb (at r j) (at r i)))
+-- ---- where a list is no ring
+-- The entry at position i is at fault: it is n or more, or repeats an earlier one.
+abbrev pub AtFault : ℕ → List ℕ → ℕ → Type 0
+AtFault n r i = (n ≤ at r i) ⊎ ((j : ℕ) × (j < i) × (at r j ≡ at r i))
 
--- the number at i is a point's, and named for the first time
-abbrev pub named : ℕ → List ℕ → ℕ → Bool
-named n r i = ltb (at r i) n && fresh r i
+-- the same as a test
+abbrev pub atFault : ℕ → List ℕ → ℕ → Bool
+atFault n r i = leb n (at r i) || someBelow i (λ j. eqb (at r j) (at r i))
 
--- IsRing as a test (check 4)
+-- The first of n entries at fault, by its position: it is at fault, and none before it is. None: no entry is.
+abbrev pub FirstFault : ℕ → List ℕ → Option ℕ → Type 0
+FirstFault n r (some i) = (i < n) × AtFault n r i × ((j : ℕ) → j < i → ¬ AtFault n r j)
+FirstFault n r none = (i : ℕ) → i < n → ¬ AtFault n r i
+
+-- the same by computation
+abbrev pub firstFault : ℕ → List ℕ → Option ℕ
+firstFault n r = leastFrom 0 n (atFault n r)
+
+-- no position is told
+abbrev pub isNone : Option ℕ → Bool
+isNone none = true
+isNone (some i) = false
+
+-- IsRing as a test (check 4): of n entries none is at fault
 abbrev pub eachOnce : ℕ → List ℕ → Bool
-eachOnce n r = eqb (length r) n && allBelow n (named n r)
+eachOnce n r = eqb (length r) n && isNone (firstFault n r)
 
+-- ---- the index
 -- The position index gives each number's place.
 pub record IsIndex (n : ℕ) (r x : List ℕ) : Type 0 where
   pub size : length x ≡ n

@@ -12,9 +12,9 @@ ghost use Prim.Native.Nat.{_+_, _<_, _≤_};
 ghost use lib.ListN.{length};
 ghost use Rattle.algebra.specs.Ranges.{upFrom};
 ghost use Rattle.index_edge.specs.Number.{edgeOf};
-ghost use Rattle.polygon.specs.Ring.{at, swap, reversed, joined, turnedRound, indexOf, IsRing, Indexed, IndexedBut, eachOnce, fresh, named};
+ghost use Rattle.polygon.specs.Ring.{at, swap, reversed, joined, turnedRound, indexOf, IsRing, Indexed, IndexedBut, firstFault, eachOnce};
 ghost use Rattle.polygon.specs.Edges.{direct};
-ghost use Rattle.polygon.specs.Place.{Apart};
+ghost use Rattle.polygon.specs.Place.{Apart, faultOf};
 
 // ---- reading the ring
 
@@ -51,46 +51,44 @@ pub fn direct(ring: &[u16], index: &[u16], edge: IndexEdge) -> PositionId
     if on.next().id.eq(max) { min } else { max }
 }
 
-// The number at i is none of those before it.
-fn is_fresh(ring: &[u16], i: usize) -> bool
-    requires { ⌜ i < length (now ring) ⌝ }
-    ensures { λ r. ⌜ r ≡ fresh (now (ring .entry)) i ⌝ }
-{
-    let point = ring[i];
-    let mut j = 0;
-    while j < i {
-        if ring[j] == point {
-            return false;
-        }
-        j += 1;
-    }
-    true
+// Where a ring is wrong: the first position whose entry is no point's number or names a point again; or nowhere, each point is named once.
+pub enum RingFault {
+    At(PositionId),
+    Nowhere,
 }
 
-// The number at i is that of a point, and none of those before it.
-fn is_named_first(ring: &[u16], i: usize) -> bool
-    requires { ⌜ i < length (now ring) ⌝ }
-    ensures { λ r. ⌜ r ≡ named (length (now (ring .entry))) (now (ring .entry)) i ⌝ }
+// One pass over the ring. What was seen is marked by value, since nothing lent may be written before the checks are through.
+// A ring of more than 256 entries does not come here: check 1 refuses it.
+pub fn first_fault(ring: &[u16]) -> RingFault
+    requires { ⌜ length (now ring) ≤ 256 ⌝ }
+    ensures { λ r. ⌜ faultOf r ≡ firstFault (length (now (ring .entry))) (now (ring .entry)) ⌝ }
 {
-    let point = ring[i] as usize;
-    if point >= ring.len() {
-        return false;
-    }
-    is_fresh(ring, i)
-}
-
-// The ring names each point once.
-pub fn each_once(ring: &[u16]) -> bool
-    ensures { λ r. ⌜ r ≡ eachOnce (length (now (ring .entry))) (now (ring .entry)) ⌝ }
-{
+    let mut seen = [false; 256];
     let mut i = 0;
     while i < ring.len() {
-        if !is_named_first(ring, i) {
-            return false;
+        let here = PositionId(i as u16);
+        let point = ring[i] as usize;
+        if point >= ring.len() {
+            return RingFault::At(here);
         }
+        if seen[point] {
+            return RingFault::At(here);
+        }
+        seen[point] = true;
         i += 1;
     }
-    true
+    RingFault::Nowhere
+}
+
+// The ring names each point once (check 4).
+pub fn each_once(ring: &[u16]) -> bool
+    requires { ⌜ length (now ring) ≤ 256 ⌝ }
+    ensures { λ r. ⌜ r ≡ eachOnce (length (now (ring .entry))) (now (ring .entry)) ⌝ }
+{
+    match first_fault(ring) {
+        RingFault::At(_) => false,
+        RingFault::Nowhere => true,
+    }
 }
 
 // ---- making ring and index

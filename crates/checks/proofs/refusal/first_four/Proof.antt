@@ -4,7 +4,7 @@ use Prim.Native.Nat.{_≤_, _<_}
 use native.Mathlib.Omega.{arith}
 use borrow.Author.Needs.{needs}
 use denote.Ref.{now}
-use lib.ListN.{length, take}
+use lib.ListN.{length, take, length-take}
 use lib.Seq.{length-take-le}
 use Rattle.algebra.specs.Cases.{not-true, not-false}
 use Rattle.geometry.specs.Lent.{points}
@@ -42,7 +42,9 @@ part-each-once-end : tie.Need-part-each-once-end
 part-each-once-end c = ring-long c
 
 each-once-requires : tie.Need-each-once-requires
-each-once-requires c κs = search needs
+each-once-requires c κs =
+    let a = c .before .before .before .before .args in
+    simp length-take (omega (arith, early-small (a .n) (now (a .x)) (now (a .y)) (a .short) (first-pass (c .before))))
 
 -- the test of the part is that of the definition
 is-once : (c : tie.After-each-once) → let a = c .before .before .before .before .before .args in c .each-once .result ≡ eachOnce (a .n) (take (a .n) (now (a .ring)))
