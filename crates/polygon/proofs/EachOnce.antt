@@ -52,6 +52,10 @@ pub ring-has : {n : ℕ} {r : List ℕ} → IsRing n r → (v : ℕ) → v < n �
 ring-has {n} {r} ring v l = onto n (at r) (ring .below) (ring .apart) v l
 
 -- ---- the test `eachOnce`
+is-none : (o : Option ℕ) → isNone o ≡ true → o ≡ none
+is-none none h = refl
+is-none (some i) h = never (isNone (some i)) h refl
+
 module _ (n : ℕ) (r : List ℕ) where
   -- no entry of a ring is at fault, and n entries of which none is are a ring
   ring-right : IsRing n r → FirstFault n r none
@@ -72,12 +76,9 @@ module _ (n : ℕ) (r : List ℕ) where
   pub none-decides : length r ≡ n → (firstFault n r ≡ none) ↔ IsRing n r
   none-decides e = (λ h. right-ring e (subst (FirstFault n r) h (first-is n r)), λ ring. sym (first-only n r none (ring-right ring)))
 
-  pub each-below : {o : Option ℕ} → length r ≡ n → o ≡ firstFault n r → isNone o ≡ eachOnce n r
-  each-below e h = rw (eq-eqb (length r) n e) (ap isNone h)
-
-  is-none : (o : Option ℕ) → isNone o ≡ true → o ≡ none
-  is-none none h = refl
-  is-none (some i) h = never (isNone (some i)) h refl
+  -- what is told of a ring's faults is what the test asks
+  pub told-each : {o : Option ℕ} → length r ≡ n → o ≡ firstFault n r → isNone o ≡ eachOnce n r
+  told-each e h = rw (eq-eqb (length r) n e) (ap isNone h)
 
   pub each-ring : eachOnce n r ≡ true → IsRing n r
   each-ring h = none-decides (eqb-true (length r) n (and-left (eqb (length r) n) _ h)) .0 (is-none (firstFault n r) (and-right (eqb (length r) n) _ h))

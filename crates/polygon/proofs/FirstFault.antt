@@ -14,7 +14,7 @@ use Rattle.algebra.specs.Cases.{both, le-cases, eq-cases, never, or-cases, or-r
 use Rattle.algebra.specs.Ranges.{some-true, true-some, IsLeast, least-is}
 use Rattle.polygon.specs.Ring.{at, AtFault, atFault, FirstFault, firstFault}
 
--- no entries; a ring; a number of n; one named twice; both, of which the first counts; the last two entries of four
+-- no entries; a ring; a number of n; a point named again; both, of which the first counts, in either order; the last entry like the first
 rows :
     (firstFault 0 [] ≡ none) × (firstFault 4 (0 ∷ 2 ∷ 1 ∷ 3 ∷ []) ≡ none)
     × (firstFault 4 (0 ∷ 4 ∷ 1 ∷ 3 ∷ []) ≡ some 1) × (firstFault 4 (0 ∷ 2 ∷ 2 ∷ 3 ∷ []) ≡ some 2)
