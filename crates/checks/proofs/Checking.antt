@@ -6,7 +6,8 @@ use Prim.Native.Nat.{ℕ, zero, suc, _-_, _≤_, _<_}
 use native.Mathlib.Omega.{arith}
 use lib.Dec.{ltb}
 use lib.IntN.{ℤ}
-use lib.ListN.{length, getD}
+use lib.ListN.{length, getD, take}
+use lib.Seq.{length-take-le}
 use borrow.Author.Tests.{ltb-false}
 use Rattle.algebra.specs.Cases.{both, or-no-left, or-no-right, and-left, and-right, not-false, true-or-false}
 use Rattle.algebra.specs.Ranges.{allBelow, all-true, upFrom}
@@ -22,6 +23,10 @@ use Rattle.checks.specs.Checks.{anyBelow, early, firstFour, late}
 -- a part that starts at 0
 pub from-start : (n : ℕ) → n - 0 ≡ n
 from-start n = omega arith
+
+-- what is told of that part and its length is told of the first n entries
+pub of-first : {B : Type 0} (f : ℕ → List ℕ → B) (n : ℕ) (l : List ℕ) → n ≤ length l → f (length (take (n - 0) l)) (take (n - 0) l) ≡ f n (take n l)
+of-first f n l h = ap (λ k. f (length (take k l)) (take k l)) (from-start n) ∙ ap (λ k. f k (take n l)) (length-take-le n l h)
 
 -- ---- the number of the first check that fails
 abbrev one-to-three : Bool → Bool → Bool → ℕ → ℕ

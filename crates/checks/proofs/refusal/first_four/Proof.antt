@@ -1,16 +1,15 @@
 -- `first_four` meets its contract, exit by exit.
-use mathlib.Core.Path.{_≡_, sym, _∙_, ap, subst}
+use mathlib.Core.Path.{_≡_, sym, _∙_, subst}
 use Prim.Native.Nat.{_≤_, _<_}
 use native.Mathlib.Omega.{arith}
 use borrow.Author.Needs.{needs}
 use denote.Ref.{now}
 use lib.ListN.{length, take, length-take}
-use lib.Seq.{length-take-le}
 use Rattle.algebra.specs.Cases.{not-true, not-false}
 use Rattle.geometry.specs.Lent.{points}
 use Rattle.polygon.specs.Ring.{eachOnce}
 use Rattle.checks.specs.Checks.{early}
-use Rattle.checks.proofs.Checking.{four-early, four-rest, early-small, early-long, from-start}
+use Rattle.checks.proofs.Checking.{four-early, four-rest, early-small, early-long, of-first}
 use Rattle.checks.proofs.refusal.first_four.Statement.{statement}
 use Rattle.checks.proofs.refusal.first_four.Tie as tie
 
@@ -48,11 +47,7 @@ each-once-requires c κs =
 
 -- the test of the part is that of the definition
 is-once : (c : tie.After-each-once) → let a = c .before .before .before .before .before .args in c .each-once .result ≡ eachOnce (a .n) (take (a .n) (now (a .ring)))
-is-once c =
-    let a = c .before .before .before .before .before .args in
-    c .each-once .ensures
-    ∙ ap (λ k. eachOnce (length (take k (now (a .ring)))) (take k (now (a .ring)))) (from-start (a .n))
-    ∙ ap (λ k. eachOnce k (take (a .n) (now (a .ring)))) (length-take-le (a .n) (now (a .ring)) (ring-long (c .before .before)))
+is-once c = let a = c .before .before .before .before .before .args in c .each-once .ensures ∙ of-first eachOnce (a .n) (now (a .ring)) (ring-long (c .before .before))
 
 returns-2 : tie.Need-returns-2
 returns-2 c =

@@ -6,12 +6,11 @@ use Prim.Native.Nat.{ℕ, _≤_, _<_}
 use native.Mathlib.Omega.{arith}
 use denote.Ref.{now}
 use lib.ListN.{length, take, length-take}
-use lib.Seq.{length-take-le}
 use borrow.Author.Needs.{needs}
 use borrow.Author.Tests.{lt-ltb, le-ltb}
 use Rattle.geometry.specs.Answers.{answered}
 use Rattle.polygon.specs.Ring.{firstFault}
-use Rattle.checks.proofs.Checking.{from-start}
+use Rattle.checks.proofs.Checking.{of-first}
 use Rattle.host.specs.declared.ring_fault.TourFault.{TourFault}
 use Rattle.host.specs.Numbers.{ringFault, faultInNumbers}
 use Rattle.host.proofs.ring_fault.tour_ring_fault.Statement.{statement}
@@ -58,9 +57,7 @@ returns-3 c =
     let a = c .before .before .before .before .before .before .args in
     let enough = c .before .before .before .if2 .left in
     told-fault (a .n) (now (a .ring)) (c .before .before .before .before .if1 .left) enough (c .in-numbers .ensures)
-    (c .before .first-fault .ensures
-    ∙ ap (λ k. firstFault (length (take k (now (a .ring)))) (take k (now (a .ring)))) (from-start (a .n))
-    ∙ ap (λ k. firstFault k (take (a .n) (now (a .ring)))) (length-take-le (a .n) (now (a .ring)) enough))
+    (c .before .first-fault .ensures ∙ of-first firstFault (a .n) (now (a .ring)) enough)
 
 pub tour-ring-fault-spec : {M : Type 1} → statement M
 tour-ring-fault-spec =
