@@ -2,6 +2,8 @@
 //
 // No function over a struct that holds a slice is covered by the borrow checker. So each is thin, hands slice and position on to a
 // covered function, and is proved by a walk of its own. Callers use `point_after`: its parameters are plain, and they need no walk.
+#![tactic(auto)]
+
 ghost use Rattle.std.specs.Prelude.{◌≡◌, ◌<◌, length};
 ghost use Rattle.polygon.specs.Ring.{at, next};
 ghost use Rattle.polygon.specs.Place.{position as place};
@@ -10,7 +12,7 @@ use index_edge::PointId;
 use polygon::polygon::position_to_point_id;
 use polygon::position::Position;
 
-#[derive(Drop)]
+#[derive(Clone, Copy)]
 pub struct Cursor<'a> {
     pub ring: &'a [u16],
     pub position: Position,

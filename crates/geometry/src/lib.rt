@@ -2,6 +2,8 @@
 //
 // The entries `orient`, `contains` and `meets` check what they are given and refuse it with number 3. The functions with a
 // `requires` do not check: they are for hot loops over points that are known to be within the limits.
+#![tactic(auto)]
+
 pub mod distance;
 pub mod line_segment;
 pub mod orientation;

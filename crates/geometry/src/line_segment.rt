@@ -11,14 +11,14 @@ use super::orientation::turn_of;
 use super::point::{Point, alike, greater, in_range, is_less, lesser, order_key, point_at};
 
 // An end of a segment: an open one is itself left out.
-#[derive(Drop)]
+#[derive(Clone, Copy)]
 pub enum EndPoint {
     Exclusive(Point),
     Inclusive(Point),
 }
 
 // What `contains` and `meets` answer. A coordinate out of range and a segment of equal ends are refused, with number 3.
-#[derive(Drop)]
+#[derive(Clone, Copy)]
 pub enum Verdict {
     Yes,
     No,

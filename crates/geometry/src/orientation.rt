@@ -7,7 +7,7 @@ ghost use Rattle.geometry.specs.Answers.{sign, turn_of, oriented_of, orientation
 
 use super::point::{Point, in_range, point_at};
 
-#[derive(Drop)]
+#[derive(Clone, Copy)]
 pub enum Orientation {
     CounterClockWise,
     ClockWise,
@@ -15,7 +15,7 @@ pub enum Orientation {
 }
 
 // What `orient` answers. Out of range is refusal 3.
-#[derive(Drop)]
+#[derive(Clone, Copy)]
 pub enum Oriented {
     Turns(Orientation),
     OutOfRange,

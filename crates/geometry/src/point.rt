@@ -4,7 +4,7 @@ ghost use Rattle.algebra.specs.Size.{abs};
 ghost use Rattle.geometry.specs.Plane.{near, near_point, eq_point, lt_point, min_point, max_point};
 ghost use Rattle.geometry.specs.Lent.{spot, points, InRange, Here, order_key};
 
-#[derive(Drop)]
+#[derive(Clone, Copy)]
 pub struct Point {
     pub x: i32,
     pub y: i32,

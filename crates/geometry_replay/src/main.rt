@@ -5,6 +5,8 @@
 //   1: segments a1 a2 and b1 b2 meet ax ay ax ay bx by bx by
 //   4: segment a b contains p        ax ay bx by px py 0 0    (5: a is open; 6: b is open; 7: both are)
 // Each case is answered by one letter, 81 to a line: + 0 - for a turn, y or n, and 3 for a refusal.
+#![tactic(auto)]
+
 ghost use Rattle.std.specs.Prelude.{◌<◌, ◌≤◌, length};
 
 use geometry::line_segment::{EndPoint, Verdict, contains, meets};

@@ -8,7 +8,7 @@ use job::reader::{Outcome, read_job};
 
 // Code 0 with the counts of points and picks that were read, else the number of the refusal and no counts.
 #[repr(C)]
-#[derive(Drop)]
+#[derive(Clone, Copy)]
 pub struct TourJob {
     pub code: u32,
     pub points: usize,

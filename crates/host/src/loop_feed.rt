@@ -7,7 +7,7 @@ use job::feed::feed;
 
 // Code 0 with the feed, else the number of the refusal and no feed.
 #[repr(C)]
-#[derive(Drop)]
+#[derive(Clone, Copy)]
 pub struct TourFeed {
     pub code: u32,
     pub feed: u64,

@@ -11,7 +11,7 @@ use two_opt::entries::{Answer, resolve_self_intersections, two_opt_moves};
 // An answer in numbers: code 0 with moves and cross for a delivered loop, code 8 with moves and left where the picks are used up, else
 // the number of the refusal alone. What a code does not name is 0.
 #[repr(C)]
-#[derive(Drop)]
+#[derive(Clone, Copy)]
 pub struct TourAnswer {
     pub code: u32,
     pub moves: usize,

@@ -8,7 +8,7 @@ use polygon::polygon::{RingFault, first_fault};
 
 // Code 0 where each point is named once, 4 with the position of the first entry at fault, else the number of the refusal and no position.
 #[repr(C)]
-#[derive(Drop)]
+#[derive(Clone, Copy)]
 pub struct TourFault {
     pub code: u32,
     pub position: usize,

@@ -1,14 +1,16 @@
 // Point numbers, and the edges between them (polygon.rs, `PointId` and `IndexEdge`).
+#![tactic(auto)]
+
 ghost use Rattle.std.specs.Prelude.{◌≡◌};
 ghost use Rattle.index_edge.specs.Edge.{edge, eq_edge, lt_edge};
 ghost use Rattle.index_edge.specs.Number.{edge_of};
 
 // The number of a point. It is taken apart only where a slice is indexed.
-#[derive(Drop)]
+#[derive(Clone, Copy)]
 pub struct PointId(pub u16);
 
 // An unordered pair of point numbers, the smaller first.
-#[derive(Drop)]
+#[derive(Clone, Copy)]
 pub struct IndexEdge {
     pub min: PointId,
     pub max: PointId,

@@ -1,4 +1,6 @@
 // The integer root of any 64-bit number: no float, no table.
+#![tactic(auto)]
+
 ghost use Rattle.std.specs.Prelude.{◌≡◌, ◌+◌, ◌*◌, ◌≤◌, ◌<◌};
 ghost use Rattle.integer_root.specs.Root.{root};
 

@@ -16,7 +16,7 @@ use crate::utils::{Counts, NONE, SparseIndex, alloc, release};
 use index_edge::{IndexEdge, PointId};
 
 // Two edges that meet, the smaller first.
-#[derive(Drop)]
+#[derive(Clone, Copy)]
 pub struct IndexIntersection {
     pub min: IndexEdge,
     pub max: IndexEdge,

@@ -1,3 +1,5 @@
 // The pool of crossing records: slots that grow and are freed, their dense order, and a list for each edge.
+#![tactic(auto)]
+
 pub mod intersection_set;
 pub mod utils;

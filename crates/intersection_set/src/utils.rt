@@ -5,7 +5,7 @@ ghost use Rattle.intersection_set.specs.Pool.{order, counts_of, take_slot, dense
 ghost use Rattle.intersection_set.specs.Within.{TakeOk, AppendOk, DropOk};
 
 // The number of a slot. It is taken apart only where a slice is indexed.
-#[derive(Drop)]
+#[derive(Clone, Copy)]
 pub struct SparseIndex(pub u16);
 
 // No slot.
@@ -20,7 +20,7 @@ impl SparseIndex {
 }
 
 // How many slots are in use, how many were grown so far, and how many of these are free again.
-#[derive(Drop)]
+#[derive(Clone, Copy)]
 pub struct Counts {
     pub live: usize,
     pub grown: usize,
@@ -28,7 +28,7 @@ pub struct Counts {
 }
 
 // A slot that was taken, and the counts after it.
-#[derive(Drop)]
+#[derive(Clone, Copy)]
 pub struct Taken {
     pub slot: SparseIndex,
     pub counts: Counts,

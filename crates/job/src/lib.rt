@@ -1,4 +1,6 @@
 // The job file and what is printed of it: read, write, tell.
+#![tactic(auto)]
+
 pub mod encoder;
 pub mod feed;
 pub mod reader;

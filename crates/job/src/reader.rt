@@ -10,7 +10,7 @@ ghost use Rattle.job.specs.Job.{refusal as refusalOf};
 use super::word::word_at;
 
 // A job is read, with its counts of points and picks, or refused by number.
-#[derive(Drop)]
+#[derive(Clone, Copy)]
 pub enum Outcome {
     Read { points: usize, picks: usize },
     Refused(u8),

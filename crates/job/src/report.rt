@@ -9,7 +9,7 @@ use super::feed::feed;
 use super::text::{put_field, put_integer, put_text};
 
 // What is told of a job: its loop is delivered, its picks are used up with records left, or it is refused.
-#[derive(Drop)]
+#[derive(Clone, Copy)]
 pub enum Report {
     Delivered { moves: usize, cross: usize },
     Stopped { left: usize },

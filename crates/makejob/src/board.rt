@@ -7,14 +7,14 @@ ghost use Rattle.makejob.specs.Kept.{Fits, StepFits, LinesFit};
 use super::line::{Line, find, read_line};
 
 // How many points and picks are kept so far, and whether a line `picks` gave them.
-#[derive(Drop)]
+#[derive(Clone, Copy)]
 pub struct Board {
     pub points: usize,
     pub picks: usize,
     pub drawn: bool,
 }
 
-#[derive(Drop)]
+#[derive(Clone, Copy)]
 pub enum Fault {
     Malformed,
     OutOfRange,
@@ -23,14 +23,14 @@ pub enum Fault {
     PicksTwice,
 }
 
-#[derive(Drop)]
+#[derive(Clone, Copy)]
 pub enum Step {
     Next(Board),
     Failed(Fault),
 }
 
 // All lines were taken, or the one with this number was not.
-#[derive(Drop)]
+#[derive(Clone, Copy)]
 pub enum Lines {
     All(Board),
     Fault(usize, Fault),

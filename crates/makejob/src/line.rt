@@ -3,7 +3,7 @@ ghost use Rattle.std.specs.Prelude.{◌≤◌, length};
 
 use super::number::{Coordinate, Word, read_coordinate, read_word};
 
-#[derive(Drop)]
+#[derive(Clone, Copy)]
 pub enum Line {
     Blank,
     Point { x: i32, y: i32 },
@@ -14,7 +14,7 @@ pub enum Line {
 }
 
 // The field of a line from `start` up to `end`; there is none where the two are equal.
-#[derive(Drop)]
+#[derive(Clone, Copy)]
 struct Field {
     start: usize,
     end: usize,

@@ -2,6 +2,8 @@
 //
 // A line is `x y`, a point in micrometres; `pick N`, one pick; `picks SEED COUNT`, all picks, drawn from a seed; or blank. `#` starts a
 // comment. What does not fit is told on standard error with the line's number, and no job is written.
+#![tactic(auto)]
+
 mod board;
 mod line;
 mod number;

@@ -4,20 +4,20 @@ ghost use Rattle.job.specs.Decimal.{is_digit, all_digits, value};
 ghost use Rattle.makejob.specs.Numbers.{cap, capped, minus_first, plus, minus, natural_of, word_of, coordinate_of};
 ghost use Rattle.makejob.specs.Numbers.{natural, word, coordinate};
 
-#[derive(Drop)]
+#[derive(Clone, Copy)]
 pub enum Natural {
     Is(u64),
     Malformed,
 }
 
-#[derive(Drop)]
+#[derive(Clone, Copy)]
 pub enum Word {
     Is(u32),
     OutOfRange,
     Malformed,
 }
 
-#[derive(Drop)]
+#[derive(Clone, Copy)]
 pub enum Coordinate {
     Is(i32),
     OutOfRange,

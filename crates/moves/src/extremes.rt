@@ -14,7 +14,7 @@ use geometry::point::Point;
 use polygon::position::Position;
 
 // A stretch of the ring: where it starts, and how many edges it has.
-#[derive(Drop)]
+#[derive(Clone, Copy)]
 pub struct Run {
     pub from: Position,
     pub edges: u16,

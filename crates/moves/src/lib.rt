@@ -1,4 +1,6 @@
 // Which move a recorded crossing calls for: what of two_opt.rs reads the points and the ring, and not the records.
+#![tactic(auto)]
+
 pub mod extremes;
 pub mod plan;
 pub mod search;

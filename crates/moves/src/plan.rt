@@ -33,7 +33,7 @@ use polygon::polygon::direct;
 use polygon::position::{Position, PositionId};
 
 // What a move does: the positions where two crossing edges start, or a kink and the edge that it goes into.
-#[derive(Drop)]
+#[derive(Clone, Copy)]
 pub enum Move {
     Uncross { from: PositionId, to: PositionId },
     Hoist { kink: PositionId, edge: PositionId },

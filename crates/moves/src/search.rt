@@ -19,14 +19,14 @@ use geometry::point::order_key;
 use polygon::position::{Position, PositionId};
 
 // What the search finds: the position of a kink, and that of the edge that holds it strictly inside.
-#[derive(Drop)]
+#[derive(Clone, Copy)]
 pub enum Mergable {
     Found { kink: PositionId, edge: PositionId },
     Nothing,
 }
 
 // The best pair so far, and how many edges of both runs come before its edge: all of them while nothing is found.
-#[derive(Drop)]
+#[derive(Clone, Copy)]
 pub struct Best {
     pub passed: u16,
     pub found: Mergable,
@@ -56,7 +56,7 @@ fn is_below(x: &[i32], y: &[i32], ring: &[u16], at: Position, key: i64) -> bool
 }
 
 // An edge of a run: where it starts, and how many edges of both runs come before it.
-#[derive(Drop)]
+#[derive(Clone, Copy)]
 pub struct RunEdge {
     pub at: PositionId,
     pub passed: u16,

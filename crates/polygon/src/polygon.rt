@@ -48,7 +48,7 @@ pub fn direct(ring: &[u16], index: &[u16], edge: IndexEdge) -> PositionId
 }
 
 // Where a ring is wrong: the first position whose entry is no point's number or names a point again; or nowhere, each point is named once.
-#[derive(Drop)]
+#[derive(Clone, Copy)]
 pub enum RingFault {
     At(PositionId),
     Nowhere,

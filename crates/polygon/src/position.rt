@@ -4,7 +4,7 @@ ghost use Rattle.polygon.specs.Ring.{next, prev};
 ghost use Rattle.polygon.specs.Place.{position};
 
 // A ring position. It is taken apart only where a slice is indexed.
-#[derive(Drop)]
+#[derive(Clone, Copy)]
 pub struct PositionId(pub u16);
 
 impl PositionId {
@@ -22,7 +22,7 @@ impl PositionId {
 }
 
 // A ring position with the size of its ring, so that it can move on and back.
-#[derive(Drop)]
+#[derive(Clone, Copy)]
 pub struct Position {
     pub id: PositionId,
     pub size: u16,

@@ -5,6 +5,8 @@
 // A case is answered by `ok moves M cross C` and a line `ring A B ..`; or by `refused K`; or by `refused 8 moves M left L`, the ring,
 // and a line `record A B C D` for each record left, in dense order (the edges A-B and C-D). A case that is cut off, of another
 // kind, or of more than 4,096 picks is answered by `bad case K`, counted from 1, and ends the run.
+#![tactic(auto)]
+
 mod answer;
 mod case;
 mod solve;

@@ -1,2 +1,4 @@
+#![tactic(auto)]
+
 pub mod resolve;
 pub mod run;

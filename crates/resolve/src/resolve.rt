@@ -30,7 +30,7 @@ fn finish(n: usize, x: &[i32], y: &[i32], left: usize, ring: &mut [u16], index: 
 }
 
 // What a run counts.
-#[derive(Drop)]
+#[derive(Clone, Copy)]
 pub struct Resolved {
     pub moves: usize,
     pub cross: usize,

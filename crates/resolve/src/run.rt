@@ -69,7 +69,7 @@ pub fn begin(
 }
 
 // The moves made, and the counts after them.
-#[derive(Drop)]
+#[derive(Clone, Copy)]
 pub struct Moved {
     pub moves: usize,
     pub counts: Counts,

@@ -2,6 +2,8 @@
 //
 // Standard input is a row of rings, each of five bytes: how many entries it has, at most 4, and four entries, of which the first so many count.
 // Each ring is answered by a line: the position of the first entry that is no point's number or names a point again, or `none`.
+#![tactic(auto)]
+
 ghost use Rattle.std.specs.Prelude.{◌≤◌, length};
 
 use polygon::polygon::{RingFault, first_fault};

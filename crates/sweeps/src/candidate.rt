@@ -44,7 +44,7 @@ fn is_wanted(moves: bool, x: &[i32], y: &[i32], a: Segment, from: Seen, to: Seen
 }
 
 // Two edges in the order in which they are pushed, and whether they are.
-#[derive(Drop)]
+#[derive(Clone, Copy)]
 pub struct Candidate {
     pub first: IndexEdge,
     pub second: IndexEdge,

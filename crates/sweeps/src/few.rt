@@ -8,7 +8,7 @@ use super::edges::edge_at;
 use index_edge::IndexEdge;
 use polygon::position::{Position, PositionId};
 
-#[derive(Drop)]
+#[derive(Clone, Copy)]
 pub struct Few {
     pub first: IndexEdge,
     pub second: IndexEdge,

@@ -18,7 +18,7 @@ use index_edge::{IndexEdge, PointId};
 use polygon::position::next_place;
 
 // An edge with the points where it ends, and the order keys of the lesser and the greater of them.
-#[derive(Drop)]
+#[derive(Clone, Copy)]
 pub struct Segment {
     pub edge: IndexEdge,
     pub min: Point,
@@ -43,7 +43,7 @@ pub fn segment_of(x: &[i32], y: &[i32], edge: IndexEdge) -> Segment
 }
 
 // A point of the ring by its number, its order key, and how an edge turns to it.
-#[derive(Drop)]
+#[derive(Clone, Copy)]
 pub struct Seen {
     pub id: PointId,
     pub key: i64,

@@ -1,4 +1,6 @@
 // From a job to what is printed of it.
+#![tactic(auto)]
+
 ghost use Rattle.std.specs.Prelude.{ℕ, ◌≤◌, ◌≡◌, false, length, take};
 ghost use Rattle.algebra.specs.Ranges.{up_from};
 ghost use Rattle.geometry.specs.Lent.{points, Lent};

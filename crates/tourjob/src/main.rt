@@ -1,4 +1,5 @@
 // Reads a job on standard input and prints its loop, or why there is none.
+#![tactic(auto)]
 
 fn main() {
     // One byte more than the longest job, so that a longer one is seen.

@@ -1,4 +1,6 @@
 // Runs many jobs as `tourjob` runs one. Standard input is a row of jobs, each behind its length as a little-endian 32-bit word.
+#![tactic(auto)]
+
 ghost use Rattle.std.specs.Prelude.{◌≤◌, length};
 
 // The length that stands before the next job; 16,386, which no job of the row has, at the end of the input.

@@ -12,7 +12,7 @@ use polygon::polygon::{identity, rebuild_index};
 use resolve::resolve::{Resolved, resolve};
 
 // The loop with the moves made and the records at the start; refusal 8, the picks used up, with the moves made and the records left; any other refusal.
-#[derive(Drop)]
+#[derive(Clone, Copy)]
 pub enum Answer {
     Delivered { moves: usize, cross: usize },
     Stopped { moves: usize, left: usize },
