@@ -12,4 +12,3 @@ pub mod Hoisting
 pub mod LaidEdges
 pub mod Plans
 pub mod WholeReversal
-pub mod LentPosition
