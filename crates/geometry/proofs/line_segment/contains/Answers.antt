@@ -1,0 +1,29 @@
+-- `contains` meets its contract: the check is the definition's, and past it the test is asked.
+use mathlib.Core.Path.{◌≡◌, sym, ◌∙◌, ap, ap₂}
+use mathlib.Core.Bool.{◌&&◌}
+use Rattle.algebra.specs.Cases.{not_true, not_false, and_left, and_right}
+use Rattle.geometry.specs.Plane.{near_point}
+use Rattle.geometry.specs.Lent.{spot}
+use Rattle.geometry.specs.Answers.{answered, proper, end_of}
+use Rattle.geometry.proofs.Reading.{in_range_lem}
+use Rattle.geometry.proofs.Choosing.{passed, stopped, ends_in_range}
+use borrow.Author.Rules.{rules}
+use Rattle.geometry.proofs.line_segment.contains.Goals as goal
+
+pub returns-then-not-is_proper-in_range : goal.returns-then-not-is_proper-in_range
+returns-then-not-is_proper-in_range c =
+    let check_is : let s = c.args in (c.is_proper.result && c.in_range.result) ≡ (proper (end_of s.a) (end_of s.b) && near_point (spot s.p)) = ap₂ ◌&&◌ (c.is_proper.ensures ∙ ap₂ proper c.inner.ensures c.inner-2.ensures) c.in_range.ensures in
+    stopped _ _ (sym check_is ∙ c.if-not-is_proper-in_range.true)
+
+pub holds_point-requires : goal.holds_point-requires
+holds_point-requires c =
+    let check_is : let s = c.args in (c.is_proper.result && c.in_range.result) ≡ (proper (end_of s.a) (end_of s.b) && near_point (spot s.p)) = ap₂ ◌&&◌ (c.is_proper.ensures ∙ ap₂ proper c.inner.ensures c.inner-2.ensures) c.in_range.ensures in
+    let s = c.args in
+    let h = sym check_is ∙ c.if-not-is_proper-in_range.false in
+    let e = ends_in_range (end_of s.a) (end_of s.b) (and_left (proper (end_of s.a) (end_of s.b)) (near_point (spot s.p)) h) in
+    (e.0, e.1, in_range_lem (spot s.p) (and_right (proper (end_of s.a) (end_of s.b)) (near_point (spot s.p)) h))
+
+pub returns : goal.returns
+returns c =
+    let check_is : let s = c.args in (c.is_proper.result && c.in_range.result) ≡ (proper (end_of s.a) (end_of s.b) && near_point (spot s.p)) = ap₂ ◌&&◌ (c.is_proper.ensures ∙ ap₂ proper c.inner.ensures c.inner-2.ensures) c.in_range.ensures in
+    c.answer.ensures ∙ ap answered c.holds_point.ensures ∙ passed _ _ (sym check_is ∙ c.if-not-is_proper-in_range.false)

@@ -1,0 +1,13 @@
+-- `above` meets its contract. The invariant: `rest` is v divided by the square of x; while some is left that square is at most v, so x is below 2³².
+use mathlib.Core.Path.{◌≡◌}
+use Prim.Native.Nat.{◌+◌, ◌*◌, ◌/◌, ◌≤◌, ◌<◌}
+use native.Mathlib.Omega.{arith}
+use Rattle.algebra.specs.Cases.{both, le_cases}
+use Rattle.algebra.specs.Size.{mul_bound}
+use Rattle.integer_root.proofs.above.Given as goal
+
+abbrev pub invariant-loop-rest : goal.invariant-loop-rest
+invariant-loop-rest l = (1 ≤ l.x) × (l.x ≤ 8589934592) × (l.rest * (l.x * l.x) ≤ l.v) × (l.v < (l.rest + 1) * (l.x * l.x))
+
+abbrev pub decreases-loop-rest : goal.decreases-loop-rest
+decreases-loop-rest l = l.rest

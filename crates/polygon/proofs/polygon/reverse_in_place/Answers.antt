@@ -1,0 +1,20 @@
+use borrow.Author.Rules.{rules}
+use native.Mathlib.Omega.{arith}
+use lib.ListN.{length-set}
+use Rattle.polygon.proofs.Reverser.{Half, half_start, half_step, half_end}
+use Rattle.polygon.proofs.polygon.reverse_in_place.Goals as goal
+
+pub loop-i-init : goal.loop-i-init
+loop-i-init c = half_start _
+
+pub bounds-list-j-in-loop-i : goal.bounds-list-j-in-loop-i
+bounds-list-j-in-loop-i c = simp length-set (omega arith)
+
+pub loop-i-preserved : goal.loop-i-preserved
+loop-i-preserved c = half_step _ _ _ _ c.loop-i.invariant c.loop-i-test.true
+
+pub shape_of-list : goal.shape_of-list
+shape_of-list c = c.loop-i.invariant.size
+
+pub returns : goal.returns
+returns c = half_end _ _ _ _ c.loop-i.invariant c.loop-i-test.false
