@@ -146,20 +146,24 @@ def respell(line, out, fields, walk):
         else:
             made.append(t)
         last = t
-    comment = re.sub(r"`([^`]*)`", lambda m: "`" + "".join(g + (out.get(t, t) if t else "") for g, t in pieces(m.group(1))) + "`", comment)
-    return "".join(made) + comment
+    return "".join(made) + ticks(comment, out)
+
+
+def ticks(text, out):
+    """What stands in backticks in a comment, turned."""
+    return re.sub(r"`([^`]*)`", lambda m: "`" + "".join(g + (out.get(t, t) if t else "") for g, t in pieces(m.group(1))) + "`", text)
 
 
 def clauses(text, out):
     """In code only what a clause, a `ghost use` or backticks in a comment say is turned."""
-    made = []
+    made, depth = [], 0
     for line in text.split("\n"):
-        s = line.lstrip()
-        if re.match(r"(ghost |requires\b|ensures\b)", s):
+        if depth or re.match(r"\s*(ghost |requires\b|ensures\b)", line):
+            depth += line.count("{") - line.count("}")
             made.append(respell(line.replace("--", "\0"), out, set(), False).replace("\0", "--"))
         elif "//" in line:
             at = line.index("//")
-            made.append(line[:at] + re.sub(r"`([^`]*)`", lambda m: "`" + "".join(g + (out.get(t, t) if t else "") for g, t in pieces(m.group(1))) + "`", line[at:]))
+            made.append(line[:at] + ticks(line[at:], out))
         else:
             made.append(line)
     return "\n".join(made)

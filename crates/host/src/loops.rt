@@ -62,7 +62,7 @@ pub extern "C" fn tour_two_opt_moves(
 ) -> TourAnswer
     ensures { let was = loan ring.old index.old (lent heads.old ends.old links.old dense.old reverse.old free.old) in
         let is = loan ring.new index.new (lent heads.new ends.new links.new dense.new reverse.new free.new) in
-        ((a : Told) × (result ≡ inNumbers a) × Entry n x.now y.now (up_from 0 n) picks.now was is a) }
+        ((a : Told) × (result ≡ in_numbers a) × Entry n x.now y.now (up_from 0 n) picks.now was is a) }
 {
     in_numbers(two_opt_moves(
         n, x, y, picks, ring, index, heads, ends, links, dense, reverse, free,
@@ -87,7 +87,7 @@ pub extern "C" fn tour_resolve_self_intersections(
 ) -> TourAnswer
     ensures { let was = loan ring.old index.old (lent heads.old ends.old links.old dense.old reverse.old free.old) in
         let is = loan ring.new index.new (lent heads.new ends.new links.new dense.new reverse.new free.new) in
-        ((a : Told) × (result ≡ inNumbers a) × Entry n x.now y.now (take n ring.old) picks.now was is a) }
+        ((a : Told) × (result ≡ in_numbers a) × Entry n x.now y.now (take n ring.old) picks.now was is a) }
 {
     in_numbers(resolve_self_intersections(
         n, x, y, picks, ring, index, heads, ends, links, dense, reverse, free,

@@ -160,7 +160,7 @@ fn set_link(
 )
     requires { EndOk s.0 (edges_of ends.now) (map (links_in back) links.old) }
     ensures { (map (links_in back) links.new ≡ set_end s.0 (edge_of e) v.0 (edges_of ends.now) (map (links_in back) links.old))
-        × (map (linksIn (not back)) links.new ≡ map (linksIn (not back)) links.old) }
+        × (map (links_in (not back)) links.new ≡ map (links_in (not back)) links.old) }
 {
     if s.is_none() {
         return;
@@ -193,8 +193,8 @@ fn put_record(
 )
     requires { (s.0 < length ends.old) × (s.0 < length links.old) }
     ensures { (edges_of ends.new ≡ put_edges s.0 (edge_of isect.min) (edge_of isect.max) (edges_of ends.old))
-        × (map nextsIn links.new ≡ putEnds s.0 next0.0 next1.0 (map nextsIn links.old))
-        × (map prevsIn links.new ≡ clearEnds s.0 (map prevsIn links.old)) }
+        × (map nexts_in links.new ≡ put_ends s.0 next0.0 next1.0 (map nexts_in links.old))
+        × (map prevs_in links.new ≡ clear_ends s.0 (map prevs_in links.old)) }
 {
     let i = s.0 as usize;
     ends[i] = pack(
@@ -219,11 +219,11 @@ pub fn push(
     free: &[u16],
 ) -> Counts
     requires { let given = lent heads.old ends.old links.old dense.old reverse.old free.now in
-        PushOk n (edge_of isect.min) (edge_of isect.max) (poolOf given c) }
+        PushOk n (edge_of isect.min) (edge_of isect.max) (pool_of given c) }
     ensures { let was = lent heads.old ends.old links.old dense.old reverse.old free.now in
         let is = lent heads.new ends.new links.new dense.new reverse.new free.now in
-        poolOf is result
-        ≡ poolPush n (edge_of isect.min) (edge_of isect.max) (poolOf was c) }
+        pool_of is result
+        ≡ pool_push n (edge_of isect.min) (edge_of isect.max) (pool_of was c) }
 {
     let t = alloc(c, dense, reverse, free);
     let s = t.slot;
@@ -252,11 +252,11 @@ pub fn push_if(
     free: &[u16],
 ) -> Counts
     requires { let given = lent heads.old ends.old links.old dense.old reverse.old free.now in
-        (ok ≡ true → ((s : Store) × Holds n (poolOf given c) s × MayPush n (edge_of a) (edge_of b) s)) }
+        (ok ≡ true → ((s : Store) × Holds n (pool_of given c) s × MayPush n (edge_of a) (edge_of b) s)) }
     ensures { let was = lent heads.old ends.old links.old dense.old reverse.old free.now in
         let is = lent heads.new ends.new links.new dense.new reverse.new free.now in
-        ((s : Store) → Holds n (poolOf was c) s → (ok ≡ true → MayPush n (edge_of a) (edge_of b) s)
-        → Holds n (poolOf is result) (cond ok (pushed (edge_of a) (edge_of b) s) s)) }
+        ((s : Store) → Holds n (pool_of was c) s → (ok ≡ true → MayPush n (edge_of a) (edge_of b) s)
+        → Holds n (pool_of is result) (cond ok (pushed (edge_of a) (edge_of b) s) s)) }
 {
     if ok {
         let isect = IndexIntersection::new(a, b);
@@ -308,11 +308,11 @@ fn remove(
     free: &mut [u16],
 ) -> Counts
     requires { let given = lent heads.old ends.now links.old dense.old reverse.old free.old in
-        RemoveOk n s.0 (poolOf given c) }
+        RemoveOk n s.0 (pool_of given c) }
     ensures { let was = lent heads.old ends.now links.old dense.old reverse.old free.old in
         let is = lent heads.new ends.now links.new dense.new reverse.new free.new in
-        poolOf is result
-        ≡ poolRemove n s.0 (poolOf was c) }
+        pool_of is result
+        ≡ pool_remove n s.0 (pool_of was c) }
 {
     let i = s.0 as usize;
     let e0 = edge0_at(ends, i);
@@ -340,11 +340,11 @@ pub fn remove_all(
     free: &mut [u16],
 ) -> Counts
     requires { let given = lent heads.old ends.now links.old dense.old reverse.old free.old in
-        Proper n (edge_of e) × ((s : Store) × Holds n (poolOf given c) s) }
+        Proper n (edge_of e) × ((s : Store) × Holds n (pool_of given c) s) }
     ensures { let was = lent heads.old ends.now links.old dense.old reverse.old free.old in
         let is = lent heads.new ends.now links.new dense.new reverse.new free.new in
-        ((s : Store) → Holds n (poolOf was c) s
-        → Holds n (poolOf is result) (allRemoved (edge_of e) s)) }
+        ((s : Store) → Holds n (pool_of was c) s
+        → Holds n (pool_of is result) (allRemoved (edge_of e) s)) }
 {
     let mut k = c;
     let mut newest = by_edge(n, e, heads);
@@ -359,7 +359,7 @@ pub fn remove_all(
 pub fn random(pick: u32, c: Counts, ends: &[u64], dense: &[u16]) -> IndexIntersection
     requires { (0 < c.live) × ((n : ℕ) × (p : Pool) × (s : Store) × Holds n p s × (p.edges ≡ edges_of ends.now) × (p.order.dense ≡ dense.now) × (p.counts ≡ c)) }
     ensures { (n : ℕ) (p : Pool) (s : Store) → Holds n p s → p.edges ≡ edges_of ends.now → p.order.dense ≡ dense.now → p.counts ≡ c
-        → (edge_of result.min ≡ (get_or s.dense (chosen pick s) noRec).e0) × (edge_of result.max ≡ (get_or s.dense (chosen pick s) noRec).e1) }
+        → (edge_of result.min ≡ (get_or s.dense (chosen pick s) no_rec).e0) × (edge_of result.max ≡ (get_or s.dense (chosen pick s) no_rec).e1) }
 {
     let live = c.live;
     let at = (pick as usize) % live;

@@ -54,11 +54,11 @@ pub fn go_on(
     free: &mut [u16],
 ) -> Resolved
     requires { let given = lent heads.old ends.old links.old dense.old reverse.old free.old in
-        Lent n x.now y.now × ((s : State) × Running n (points x.now y.now) s [] ring.old index.old (poolOf given c)) }
+        Lent n x.now y.now × ((s : State) × Running n (points x.now y.now) s [] ring.old index.old (pool_of given c)) }
     ensures { let pt = points x.now y.now in
         let was = lent heads.old ends.old links.old dense.old reverse.old free.old in
         let is = lent heads.new ends.new links.new dense.new reverse.new free.new in
-        ((s : State) → Running n pt s [] ring.old index.old (poolOf was c)
+        ((s : State) → Running n pt s [] ring.old index.old (pool_of was c)
         → Counted n pt s picks.now result.moves result.cross result.left
         × Ended n pt s picks.now ring.new index.new is) }
 {

@@ -48,7 +48,7 @@ pub fn begin(
     requires { let given = lent heads.old ends.old links.old dense.old reverse.old free.now in
         Lent n x.now y.now × (refusal n (points x.now y.now) false ring.now ≡ 0) × Room n given }
     ensures { let is = lent heads.new ends.new links.new dense.new reverse.new free.now in
-        Holds n (poolOf is result) (start n (points x.now y.now) ring.now) }
+        Holds n (pool_of is result) (start n (points x.now y.now) ring.now) }
 {
     let none = clear(heads);
     sweeps(
@@ -99,13 +99,13 @@ pub fn run(
     free: &mut [u16],
 ) -> Moved
     requires { let given = lent heads.old ends.old links.old dense.old reverse.old free.old in
-        Lent n x.now y.now × ((s : State) × Running n (points x.now y.now) s [] ring.old index.old (poolOf given c)) }
+        Lent n x.now y.now × ((s : State) × Running n (points x.now y.now) s [] ring.old index.old (pool_of given c)) }
     ensures { let pt = points x.now y.now in
         let was = lent heads.old ends.old links.old dense.old reverse.old free.old in
         let is = lent heads.new ends.new links.new dense.new reverse.new free.new in
-        ((s : State) → Running n pt s [] ring.old index.old (poolOf was c)
-        → Running n pt s picks.now ring.new index.new (poolOf is result.counts)
-        × (length (runW n pt place picks.now (from s)).log ≡ result.moves)) }
+        ((s : State) → Running n pt s [] ring.old index.old (pool_of was c)
+        → Running n pt s picks.now ring.new index.new (pool_of is result.counts)
+        × (length (run_word n pt place picks.now (from s)).log ≡ result.moves)) }
 {
     let m = picks.len();
     let mut k = c;

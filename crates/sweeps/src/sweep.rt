@@ -39,12 +39,12 @@ pub fn sweep(
 ) -> Counts
     requires { let pt = points x.now y.now in
         let given = lent heads.old ends.old links.old dense.old reverse.old free.now in
-        Lent n x.now y.now × IsRing n ring.now × Board n pt × Proper n (edge_of edge) × ((s : Store) × Holds n (poolOf given c) s × Fits n pt ring.now moves (edge_of edge) s) }
+        Lent n x.now y.now × IsRing n ring.now × Board n pt × Proper n (edge_of edge) × ((s : Store) × Holds n (pool_of given c) s × Fits n pt ring.now moves (edge_of edge) s) }
     ensures { let pt = points x.now y.now in
         let was = lent heads.old ends.old links.old dense.old reverse.old free.now in
         let is = lent heads.new ends.new links.new dense.new reverse.new free.now in
-        ((s : Store) → Holds n (poolOf was c) s → Fits n pt ring.now moves (edge_of edge) s
-        → Holds n (poolOf is result) (sweepOver pt moves (edge_of edge) (edges n ring.now) s)) }
+        ((s : Store) → Holds n (pool_of was c) s → Fits n pt ring.now moves (edge_of edge) s
+        → Holds n (pool_of is result) (sweep_over pt moves (edge_of edge) (edges n ring.now) s)) }
 {
     let mut k = c;
     let a = segment_of(x, y, edge);
@@ -82,12 +82,12 @@ pub fn sweeps(
 ) -> Counts
     requires { let pt = points x.now y.now in
         let given = lent heads.old ends.old links.old dense.old reverse.old free.now in
-        Lent n x.now y.now × IsRing n ring.now × Board n pt × (inserted.count ≤ 3) × AllProper n (source moves n ring.now inserted) × ((s : Store) × Holds n (poolOf given c) s × FitAll n pt ring.now moves (source moves n ring.now inserted) s) }
+        Lent n x.now y.now × IsRing n ring.now × Board n pt × (inserted.count ≤ 3) × AllProper n (source moves n ring.now inserted) × ((s : Store) × Holds n (pool_of given c) s × FitAll n pt ring.now moves (source moves n ring.now inserted) s) }
     ensures { let pt = points x.now y.now in
         let was = lent heads.old ends.old links.old dense.old reverse.old free.now in
         let is = lent heads.new ends.new links.new dense.new reverse.new free.now in
-        ((s : Store) → Holds n (poolOf was c) s → FitAll n pt ring.now moves (source moves n ring.now inserted) s
-        → Holds n (poolOf is result) (sweepsOver pt moves (edges n ring.now) (source moves n ring.now inserted) s)) }
+        ((s : Store) → Holds n (pool_of was c) s → FitAll n pt ring.now moves (source moves n ring.now inserted) s
+        → Holds n (pool_of is result) (sweeps_over pt moves (edges n ring.now) (source moves n ring.now inserted) s)) }
 {
     let m = source_len(moves, n, inserted);
     let mut k = c;
@@ -115,11 +115,11 @@ pub fn remove_edges(
     free: &mut [u16],
 ) -> Counts
     requires { let given = lent heads.old ends.now links.old dense.old reverse.old free.old in
-        (removed.count ≤ 3) × AllProper n (fewOf removed) × ((s : Store) × Holds n (poolOf given c) s) }
+        (removed.count ≤ 3) × AllProper n (few_of removed) × ((s : Store) × Holds n (pool_of given c) s) }
     ensures { let was = lent heads.old ends.now links.old dense.old reverse.old free.old in
         let is = lent heads.new ends.now links.new dense.new reverse.new free.new in
-        ((s : Store) → Holds n (poolOf was c) s
-        → Holds n (poolOf is result) (removes (fewOf removed) s)) }
+        ((s : Store) → Holds n (pool_of was c) s
+        → Holds n (pool_of is result) (removes (few_of removed) s)) }
 {
     let m = removed.count as usize;
     let mut k = c;

@@ -30,12 +30,12 @@ pub fn untangle(
 ) -> Counts
     requires { let pt = points x.now y.now in
         let given = lent heads.old ends.old links.old dense.old reverse.old free.old in
-        Lent n x.now y.now × ((s : State) × (cs : List ℕ) × (pick : ℕ) × Running n pt s cs ring.old index.old (poolOf given c) × Picked n pt s cs pick (edge_of isect.min) (edge_of isect.max)) }
+        Lent n x.now y.now × ((s : State) × (cs : List ℕ) × (pick : ℕ) × Running n pt s cs ring.old index.old (pool_of given c) × Picked n pt s cs pick (edge_of isect.min) (edge_of isect.max)) }
     ensures { let pt = points x.now y.now in
         let was = lent heads.old ends.old links.old dense.old reverse.old free.old in
         let is = lent heads.new ends.new links.new dense.new reverse.new free.new in
-        ((s : State) (cs : List ℕ) (pick : ℕ) → Running n pt s cs ring.old index.old (poolOf was c) → Picked n pt s cs pick (edge_of isect.min) (edge_of isect.max)
-        → Running n pt s (cs ++ pick ∷ []) ring.new index.new (poolOf is result)) }
+        ((s : State) (cs : List ℕ) (pick : ℕ) → Running n pt s cs ring.old index.old (pool_of was c) → Picked n pt s cs pick (edge_of isect.min) (edge_of isect.max)
+        → Running n pt s (cs ++ pick ∷ []) ring.new index.new (pool_of is result)) }
 {
     let min = isect.min;
     let max = isect.max;
