@@ -23,11 +23,5 @@ bounds-index-i c = omega (arith, c.loop-i.invariant.3.size)
 pub loop-i-preserved : goal.loop-i-preserved
 loop-i-preserved c = (c.loop-i.invariant.0, omega arith, counted_more c.loop-i-test.true c.loop-i.invariant.2, counted_more c.loop-i-test.true c.loop-i.invariant.3)
 
-pub shape_of-ring : goal.shape_of-ring
-shape_of-ring c = c.loop-i.invariant.2.size ∙ c.loop-i.invariant.0
-
-pub shape_of-index : goal.shape_of-index
-shape_of-index c = c.loop-i.invariant.3.size ∙ c.loop-i.invariant.0 ∙ sym c.requires.1
-
 pub returns : goal.returns
-returns c = (counted_all c.loop-i-test.false c.loop-i.invariant.2, counted_all c.loop-i-test.false c.loop-i.invariant.3)
+returns c = record { ring = counted_all c.loop-i-test.false c.loop-i.invariant.2; index = counted_all c.loop-i-test.false c.loop-i.invariant.3; }

@@ -15,14 +15,8 @@ next-pt1-requires c = (reversing_apart c.loop-pt1.invariant).first
 pub eq-requires : goal.eq-requires
 eq-requires c = tt
 
-pub shape_of-ring-then-eq : goal.shape_of-ring-then-eq
-shape_of-ring-then-eq c = c.swap_positions.auto.0 ∙ c.loop-pt1.invariant.indexed.ring.len ∙ sym c.requires.0.ring.len
-
-pub shape_of-index-then-eq : goal.shape_of-index-then-eq
-shape_of-index-then-eq c = c.swap_positions.auto.1.0 ∙ c.loop-pt1.invariant.indexed.index.size ∙ sym c.requires.0.index.size
-
 pub returns-then-eq : goal.returns-then-eq
-returns-then-eq c = reversing_met c.loop-pt1.invariant c.swap_positions.ensures.0 c.swap_positions.ensures.1 c.next-pt1.ensures (sym c.eq.ensures ∙ c.if-eq.true)
+returns-then-eq c = let r = reversing_met c.loop-pt1.invariant c.swap_positions.ensures.ring c.swap_positions.ensures.index c.next-pt1.ensures (sym c.eq.ensures ∙ c.if-eq.true) in record { ring = r.0; index = r.1; }
 
 pub prev-pt2-requires : goal.prev-pt2-requires
 prev-pt2-requires c = reversing_second c.loop-pt1.invariant
@@ -30,17 +24,11 @@ prev-pt2-requires c = reversing_second c.loop-pt1.invariant
 pub eq-requires-in-loop-pt1 : goal.eq-requires-in-loop-pt1
 eq-requires-in-loop-pt1 c = tt
 
-pub shape_of-ring-then-eq-2 : goal.shape_of-ring-then-eq-2
-shape_of-ring-then-eq-2 c = c.swap_positions.auto.0 ∙ c.loop-pt1.invariant.indexed.ring.len ∙ sym c.requires.0.ring.len
-
-pub shape_of-index-then-eq-2 : goal.shape_of-index-then-eq-2
-shape_of-index-then-eq-2 c = c.swap_positions.auto.1.0 ∙ c.loop-pt1.invariant.indexed.index.size ∙ sym c.requires.0.index.size
-
 pub returns-then-eq-2 : goal.returns-then-eq-2
-returns-then-eq-2 c = reversing_met_back c.loop-pt1.invariant c.swap_positions.ensures.0 c.swap_positions.ensures.1 c.next-pt1.ensures (sym c.eq.ensures ∙ c.if-eq.false) c.prev-pt2.ensures (sym c.eq-in-loop-pt1.ensures ∙ c.if-eq-2.true)
+returns-then-eq-2 c = let r = reversing_met_back c.loop-pt1.invariant c.swap_positions.ensures.ring c.swap_positions.ensures.index c.next-pt1.ensures (sym c.eq.ensures ∙ c.if-eq.false) c.prev-pt2.ensures (sym c.eq-in-loop-pt1.ensures ∙ c.if-eq-2.true) in record { ring = r.0; index = r.1; }
 
 pub loop-pt1-smaller : goal.loop-pt1-smaller
-loop-pt1-smaller c = reversing_falls c.loop-pt1.invariant c.swap_positions.ensures.0 c.swap_positions.ensures.1 c.next-pt1.ensures (sym c.eq.ensures ∙ c.if-eq.false) c.prev-pt2.ensures
+loop-pt1-smaller c = reversing_falls c.loop-pt1.invariant c.swap_positions.ensures.ring c.swap_positions.ensures.index c.next-pt1.ensures (sym c.eq.ensures ∙ c.if-eq.false) c.prev-pt2.ensures
 
 pub loop-pt1-preserved : goal.loop-pt1-preserved
-loop-pt1-preserved c = reversing_goes c.loop-pt1.invariant c.swap_positions.ensures.0 c.swap_positions.ensures.1 c.next-pt1.ensures (sym c.eq.ensures ∙ c.if-eq.false) c.prev-pt2.ensures (sym c.eq-in-loop-pt1.ensures ∙ c.if-eq-2.false)
+loop-pt1-preserved c = reversing_goes c.loop-pt1.invariant c.swap_positions.ensures.ring c.swap_positions.ensures.index c.next-pt1.ensures (sym c.eq.ensures ∙ c.if-eq.false) c.prev-pt2.ensures (sym c.eq-in-loop-pt1.ensures ∙ c.if-eq-2.false)

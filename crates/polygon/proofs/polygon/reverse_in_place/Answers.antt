@@ -13,8 +13,5 @@ bounds-list-j-in-loop-i c = simp length-set (omega arith)
 pub loop-i-preserved : goal.loop-i-preserved
 loop-i-preserved c = half_step _ _ _ _ c.loop-i.invariant c.loop-i-test.true
 
-pub shape_of-list : goal.shape_of-list
-shape_of-list c = c.loop-i.invariant.size
-
 pub returns : goal.returns
 returns c = half_end _ _ _ _ c.loop-i.invariant c.loop-i-test.false

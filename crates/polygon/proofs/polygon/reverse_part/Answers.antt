@@ -9,21 +9,20 @@ use Rattle.polygon.specs.Ring.{reversed, index_of, IndexedBut}
 use Rattle.polygon.proofs.Reverser.{part_reversed, outside_indexed}
 use Rattle.polygon.proofs.polygon.reverse_part.Goals as goal
 
--- the ring once its part has come back
-abbrev turned : goal.After-reverse_in_place → List ℕ
-turned c =
-    let p = c.before.before.before.before.before.before.args.pt1.id.0 in
-    let ring = c.before.before.before.before.before.before.args.ring.now in
-    take p ring ++ (c.reverse-in-place.new.0 ++ drop (c.before.before.before.before.before.before.args.pt2.id.0 + 1 - p) (drop p ring))
-
 pub index_part-requires : goal.index_part-requires
 index_part-requires c =
-    let turned_is : turned c ≡ reversed c.args.pt1.size c.args.ring.now c.args.pt1.id.0 c.args.pt2.id.0 = rw c.reverse_in_place.ensures (part_reversed c.args.pt1.size c.args.pt1.id.0 c.args.pt2.id.0 c.requires.2 c.requires.1.second c.args.ring.now c.requires.0.ring.len) in
-    let outside : IndexedBut c.args.pt1.size (turned c) c.args.index.now c.args.pt1.id.0 (c.args.pt2.id.0 + 1) = outside_indexed c.args.pt1.size c.args.pt1.id.0 c.args.pt2.id.0 c.requires.2 c.requires.1.second c.requires.0 turned_is in
+    let turned : List ℕ = let p = c.args.pt1.id.0 in
+    let ring = c.args.ring.now in
+    take p ring ++ (c.reverse_in_place.new.list ++ drop (c.args.pt2.id.0 + 1 - p) (drop p ring)) in
+    let turned_is : turned ≡ reversed c.args.pt1.size c.args.ring.now c.args.pt1.id.0 c.args.pt2.id.0 = rw c.reverse_in_place.ensures (part_reversed c.args.pt1.size c.args.pt1.id.0 c.args.pt2.id.0 c.requires.2 c.requires.1.second c.args.ring.now c.requires.0.ring.len) in
+    let outside : IndexedBut c.args.pt1.size turned c.args.index.now c.args.pt1.id.0 (c.args.pt2.id.0 + 1) = outside_indexed c.args.pt1.size c.args.pt1.id.0 c.args.pt2.id.0 c.requires.2 c.requires.1.second c.requires.0 turned_is in
     let size = outside.ring.len in (rw size outside, omega arith, omega arith, omega arith)
 
 pub returns : goal.returns
 returns c =
-    let turned_is : turned c ≡ reversed c.args.pt1.size c.args.ring.now c.args.pt1.id.0 c.args.pt2.id.0 = rw c.reverse_in_place.ensures (part_reversed c.args.pt1.size c.args.pt1.id.0 c.args.pt2.id.0 c.requires.2 c.requires.1.second c.args.ring.now c.requires.0.ring.len) in
-    let outside : IndexedBut c.args.pt1.size (turned c) c.args.index.now c.args.pt1.id.0 (c.args.pt2.id.0 + 1) = outside_indexed c.args.pt1.size c.args.pt1.id.0 c.args.pt2.id.0 c.requires.2 c.requires.1.second c.requires.0 turned_is in
-    (turned_is, c.index_part.ensures ∙ ap (λ n. index_of n (turned c.before.before.before.before.before.before.before)) outside.ring.len)
+    let turned : List ℕ = let p = c.args.pt1.id.0 in
+    let ring = c.args.ring.now in
+    take p ring ++ (c.reverse_in_place.new.list ++ drop (c.args.pt2.id.0 + 1 - p) (drop p ring)) in
+    let turned_is : turned ≡ reversed c.args.pt1.size c.args.ring.now c.args.pt1.id.0 c.args.pt2.id.0 = rw c.reverse_in_place.ensures (part_reversed c.args.pt1.size c.args.pt1.id.0 c.args.pt2.id.0 c.requires.2 c.requires.1.second c.args.ring.now c.requires.0.ring.len) in
+    let outside : IndexedBut c.args.pt1.size turned c.args.index.now c.args.pt1.id.0 (c.args.pt2.id.0 + 1) = outside_indexed c.args.pt1.size c.args.pt1.id.0 c.args.pt2.id.0 c.requires.2 c.requires.1.second c.requires.0 turned_is in
+    record { ring = turned_is; index = c.index_part.ensures ∙ ap (λ n. index_of n turned) outside.ring.len; }

@@ -8,12 +8,6 @@ use Rattle.polygon.specs.Ring.{at}
 use Rattle.polygon.proofs.Index.{indexed_is, indexed_swap}
 use Rattle.polygon.proofs.polygon.swap_positions.Goals as goal
 
-first : (c : goal.Start) → at c.args.ring.now c.args.pa.id.0 < c.args.pa.size
-first c = c.requires.0.ring.below c.args.pa.id.0 c.requires.1.first
-
-second : (c : goal.Start) → at c.args.ring.now c.args.pb.id.0 < c.args.pa.size
-second c = c.requires.0.ring.below c.args.pb.id.0 c.requires.1.second
-
 pub overflow_cast-x : goal.overflow_cast-x
 overflow_cast-x c = omega (arith, c.slice_known-2-1.given c.args.pa.id.0)
 
@@ -21,28 +15,44 @@ pub overflow_cast-y : goal.overflow_cast-y
 overflow_cast-y c = omega (arith, c.slice_known-2-1.given c.args.pb.id.0)
 
 pub offset_bounds-index-x : goal.offset_bounds-index-x
-offset_bounds-index-x c = omega (arith, first c.before.before.before.before, c.requires.0.index.size)
+offset_bounds-index-x c =
+    let first : at c.args.ring.now c.args.pa.id.0 < c.args.pa.size = c.requires.0.ring.below c.args.pa.id.0 c.requires.1.first in
+    omega (arith, first, c.requires.0.index.size)
 
 pub bounds-index-x : goal.bounds-index-x
-bounds-index-x c = omega (arith, first c.before.before.before.before.before, c.requires.0.index.size)
+bounds-index-x c =
+    let first : at c.args.ring.now c.args.pa.id.0 < c.args.pa.size = c.requires.0.ring.below c.args.pa.id.0 c.requires.1.first in
+    omega (arith, first, c.requires.0.index.size)
 
 pub offset_bounds-index-y : goal.offset_bounds-index-y
-offset_bounds-index-y c = omega (arith, second c.before.before.before.before.before, c.requires.0.index.size)
+offset_bounds-index-y c =
+    let second : at c.args.ring.now c.args.pb.id.0 < c.args.pa.size = c.requires.0.ring.below c.args.pb.id.0 c.requires.1.second in
+    omega (arith, second, c.requires.0.index.size)
 
 pub bounds-index-y : goal.bounds-index-y
-bounds-index-y c = omega (arith, second c.before.before.before.before.before.before, c.requires.0.index.size)
+bounds-index-y c =
+    let second : at c.args.ring.now c.args.pb.id.0 < c.args.pa.size = c.requires.0.ring.below c.args.pb.id.0 c.requires.1.second in
+    omega (arith, second, c.requires.0.index.size)
 
 pub offset_bounds-index-x-2 : goal.offset_bounds-index-x-2
-offset_bounds-index-x-2 c = omega (arith, first c.before.before.before.before.before.before, c.requires.0.index.size)
+offset_bounds-index-x-2 c =
+    let first : at c.args.ring.now c.args.pa.id.0 < c.args.pa.size = c.requires.0.ring.below c.args.pa.id.0 c.requires.1.first in
+    omega (arith, first, c.requires.0.index.size)
 
 pub bounds-index-x-2 : goal.bounds-index-x-2
-bounds-index-x-2 c = omega (arith, first c.before.before.before.before.before.before, c.requires.0.index.size)
+bounds-index-x-2 c =
+    let first : at c.args.ring.now c.args.pa.id.0 < c.args.pa.size = c.requires.0.ring.below c.args.pa.id.0 c.requires.1.first in
+    omega (arith, first, c.requires.0.index.size)
 
 pub offset_bounds-index-y-2 : goal.offset_bounds-index-y-2
-offset_bounds-index-y-2 c = omega (arith, second c.before.before.before.before.before.before, c.requires.0.index.size)
+offset_bounds-index-y-2 c =
+    let second : at c.args.ring.now c.args.pb.id.0 < c.args.pa.size = c.requires.0.ring.below c.args.pb.id.0 c.requires.1.second in
+    omega (arith, second, c.requires.0.index.size)
 
 pub bounds-index-y-2 : goal.bounds-index-y-2
-bounds-index-y-2 c = simp length-set (omega (arith, second c.before.before.before.before.before.before, c.requires.0.index.size))
+bounds-index-y-2 c =
+    let second : at c.args.ring.now c.args.pb.id.0 < c.args.pa.size = c.requires.0.ring.below c.args.pb.id.0 c.requires.1.second in
+    simp length-set (omega (arith, second, c.requires.0.index.size))
 
 pub returns : goal.returns
-returns c = (refl, indexed_is (indexed_swap c.requires.0 c.args.pa.id.0 c.args.pb.id.0 c.requires.1.first c.requires.1.second))
+returns c = record { ring = refl; index = indexed_is (indexed_swap c.requires.0 c.args.pa.id.0 c.args.pb.id.0 c.requires.1.first c.requires.1.second); }

@@ -13,4 +13,4 @@ vertices_reverse-requires c = (c.requires.0, rw c.prev.ensures (record { same = 
 pub returns : goal.returns
 returns c =
     let ring = c.args.ring.now in
-    (c.vertices_reverse.ensures.0 ∙ ap (λ (p : Position). reversed (length ring) ring 0 p.id.0) c.prev.ensures, c.vertices_reverse.ensures.1)
+    record { ring = c.vertices_reverse.ensures.ring ∙ ap (λ (p : Position). reversed (length ring) ring 0 p.id.0) c.prev.ensures; index = c.vertices_reverse.ensures.index; }

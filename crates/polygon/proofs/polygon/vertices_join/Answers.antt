@@ -12,14 +12,8 @@ prev-prev-requires c = coming_within c.loop-pt1.invariant
 pub eq-requires : goal.eq-requires
 eq-requires c = tt
 
-pub shape_of-ring-then-eq : goal.shape_of-ring-then-eq
-shape_of-ring-then-eq c = c.loop-pt1.invariant.indexed.ring.len ∙ sym c.requires.0.ring.len
-
-pub shape_of-index-then-eq : goal.shape_of-index-then-eq
-shape_of-index-then-eq c = c.loop-pt1.invariant.indexed.index.size ∙ sym c.requires.0.index.size
-
 pub returns-then-eq : goal.returns-then-eq
-returns-then-eq c = coming_met c.loop-pt1.invariant c.prev-prev.ensures (sym c.eq.ensures ∙ c.if-eq.true)
+returns-then-eq c = let r = coming_met c.loop-pt1.invariant c.prev-prev.ensures (sym c.eq.ensures ∙ c.if-eq.true) in record { ring = r.0; index = r.1; }
 
 pub swap_positions-requires : goal.swap_positions-requires
 swap_positions-requires c = (coming_indexed c.loop-pt1.invariant c.prev-prev.ensures, coming_apart c.loop-pt1.invariant c.prev-prev.ensures (sym c.eq.ensures ∙ c.if-eq.false))
@@ -28,4 +22,4 @@ pub loop-pt1-smaller : goal.loop-pt1-smaller
 loop-pt1-smaller c = coming_falls c.loop-pt1.invariant c.prev-prev.ensures (sym c.eq.ensures ∙ c.if-eq.false)
 
 pub loop-pt1-preserved : goal.loop-pt1-preserved
-loop-pt1-preserved c = coming_goes c.loop-pt1.invariant c.prev-prev.ensures (sym c.eq.ensures ∙ c.if-eq.false) c.swap_positions.ensures.0 c.swap_positions.ensures.1
+loop-pt1-preserved c = coming_goes c.loop-pt1.invariant c.prev-prev.ensures (sym c.eq.ensures ∙ c.if-eq.false) c.swap_positions.ensures.ring c.swap_positions.ensures.index
