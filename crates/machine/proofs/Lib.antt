@@ -22,3 +22,4 @@ pub mod Moments
 pub mod Demand3Holds
 pub mod Accepted
 pub mod Ready
+pub mod Boards

@@ -45,10 +45,12 @@ module _ (n : ℕ) (pt : ℕ → Point) where
     first_kink_skip p j ks e = both (true_or_false (kink_in n pt r j p)) (λ t. hoist_none j p (rw t at e)) (λ t. (t, rw t at e))
 
     first_kink_none : (p : ℕ) (ks : List ℕ) → first_kink n pt r p ks ≡ none → (k : ℕ) → In k ks → kink_in n pt r k p ≡ false
+    first_kink_none p [] e k x = elim x [ ]
     first_kink_none p (j ∷ ks) e k (here q) = rw q (first_kink_skip p j ks e).0
     first_kink_none p (j ∷ ks) e k (there h) = first_kink_none p ks (first_kink_skip p j ks e).1 k h
 
     pub search_edges_none : (ks ps : List ℕ) → search_edges n pt r ks ps ≡ none → (k p : ℕ) → In k ks → In p ps → kink_in n pt r k p ≡ false
+    search_edges_none ks [] e k p hk x = elim x [ ]
     search_edges_none ks (q ∷ ps) e k p hk (here f) = rw f (first_kink_none q ks (or_else_none (first_kink n pt r q ks) (search_edges n pt r ks ps) e).0 k hk)
     search_edges_none ks (q ∷ ps) e k p hk (there h) = search_edges_none ks ps (or_else_none (first_kink n pt r q ks) (search_edges n pt r ks ps) e).1 k p hk h
 

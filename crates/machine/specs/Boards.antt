@@ -1,5 +1,5 @@
 -- Boards with their answers, as rows: document 01's starred ones, and six that catch mistakes which those miss.
--- `rows_hold`, at the end, proves them all together by computation.
+-- `rows_hold` (proofs/Boards) proves them all together by computation.
 use Rattle.std.specs.Prelude.{◌≡◌, refl, Bool, true, false, not, ◌&&◌, cond, List, [], ◌∷◌, ℕ, ℤ, pos, negsuc, eqb, length, get_or}
 use Rattle.algebra.specs.Ranges.{up_from}
 use Rattle.geometry.specs.Plane.{Point}
@@ -75,40 +75,40 @@ all_hold [] = true
 all_hold (q ∷ l) = holds q && all_hold l
 
 -- ---- the boards
-square : List Point
+unfoldable pub square : List Point
 square = p (pos 0) (pos 0) ∷ p (pos 10) (pos 10) ∷ p (pos 10) (pos 0) ∷ p (pos 0) (pos 10) ∷ []
 
-four : List Point
+unfoldable pub four : List Point
 four = p (pos 0) (pos 0) ∷ p (pos 4) (pos 0) ∷ p (pos 2) (pos 0) ∷ p (pos 2) (pos 3) ∷ []
 
-seven : List Point
+unfoldable pub seven : List Point
 seven = p (pos 12) (pos 0) ∷ p (pos 1) (pos 0) ∷ p (pos 3) (negsuc 4) ∷ p (pos 0) (pos 0) ∷ p (pos 10) (pos 0) ∷ p (pos 2) (pos 0) ∷ p (pos 6) (pos 5) ∷ []
 
 -- the far end of the first run is the kink, and an edge of the second run holds it
-far_end : List Point
+unfoldable pub far_end : List Point
 far_end = p (pos 1) (pos 0) ∷ p (pos 4) (pos 0) ∷ p (pos 5) (negsuc 4) ∷ p (pos 6) (pos 0) ∷ p (pos 3) (pos 0) ∷ p (pos 0) (pos 0) ∷ p (pos 1) (pos 5) ∷ []
 
 -- a run has to stretch back, and one has to stretch on
-stretch_back : List Point
+unfoldable pub stretch_back : List Point
 stretch_back = p (pos 0) (pos 3) ∷ p (pos 0) (pos 0) ∷ p (pos 0) (pos 1) ∷ p (pos 1) (pos 0) ∷ p (pos 0) (pos 2) ∷ []
 
-stretch_on : List Point
+unfoldable pub stretch_on : List Point
 stretch_on = p (pos 1) (pos 0) ∷ p (pos 0) (pos 3) ∷ p (pos 0) (pos 0) ∷ p (pos 0) (pos 1) ∷ p (pos 0) (pos 2) ∷ []
 
 -- the last dense entry moves into the gap
-gap : List Point
+unfoldable pub gap : List Point
 gap = p (pos 1) (pos 1) ∷ p (pos 0) (pos 0) ∷ p (pos 0) (pos 2) ∷ p (pos 1) (pos 0) ∷ p (pos 0) (pos 1) ∷ []
 
 -- the smallest board with a pair recorded twice: the hoist wraps
-wrap : List Point
+unfoldable pub wrap : List Point
 wrap = p (pos 0) (pos 0) ∷ p (pos 0) (pos 1) ∷ p (pos 1) (pos 0) ∷ p (pos 2) (pos 0) ∷ p (pos 3) (pos 0) ∷ []
 
 -- more records left than at the start
-more : List Point
+unfoldable pub more : List Point
 more = p (pos 0) (pos 0) ∷ p (pos 0) (pos 1) ∷ p (pos 2) (pos 0) ∷ p (pos 1) (pos 0) ∷ p (pos 1) (pos 1) ∷ p (pos 2) (pos 1) ∷ []
 
 -- ---- the rows
-pub rows : List Row
+unfoldable pub rows : List Row
 rows =
     tour (p (pos 0) (pos 0) ∷ p (pos 1) (pos 0) ∷ p (pos 2) (pos 0) ∷ []) [] (refused 7)
     ∷ tour [] [] (refused 6)
@@ -138,7 +138,3 @@ rows =
     ∷ tour more (1 ∷ []) (unfinished (1 ∷ 0 ∷ 2 ∷ 3 ∷ 4 ∷ 5 ∷ []) 1 4)
     ∷ dense seven (0 ∷ []) (edge 1 4 ∷ edge 3 5 ∷ edge 1 2 ∷ edge 3 5 ∷ edge 1 4 ∷ edge 3 5 ∷ edge 1 4 ∷ edge 5 6 ∷ [])
     ∷ []
-
-pub rows_hold : all_hold rows ≡ true
-unfolding rows square four seven far_end stretch_back stretch_on gap wrap more meet_edges
-rows_hold = refl
