@@ -1,0 +1,17 @@
+-- `put_words` meets its contract. The invariant: the first i words are written.
+use mathlib.Core.Path.{◌≡◌, ap, ◌∙◌}
+use Prim.Native.Nat.{◌-◌, ◌≤◌}
+use native.Mathlib.Omega.{arith}
+use lib.ListN.{length, take}
+use lib.Seq.{take-length, length-take-le}
+use Rattle.job.specs.Buffers.{Put}
+use Rattle.job.proofs.Written.{put_empty, put_length, put_then}
+use Rattle.job.specs.Words.{bytes_of}
+use Rattle.job.proofs.Encoding.{words_none, words_next, length_bytes}
+use Rattle.job.proofs.encoder.put_words.Given as goal
+
+abbrev pub invariant-loop-i : goal.invariant-loop-i
+invariant-loop-i l = (l.i ≤ length l.ws) × Put l.initial.out l.at (bytes_of (take l.i l.ws)) l.p l.out
+
+abbrev pub decreases-loop-i : goal.decreases-loop-i
+decreases-loop-i l = length l.ws - l.i

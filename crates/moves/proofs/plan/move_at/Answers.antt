@@ -1,0 +1,14 @@
+-- `move_at` meets its contract: the test for one line is that of `plan_at`.
+use mathlib.Core.Path.{sym, ◌∙◌}
+use borrow.Author.Rules.{rules}
+use Rattle.geometry.specs.Lent.{points}
+use Rattle.moves.proofs.PlanParts.{plan_uncross, folded}
+use Rattle.moves.proofs.plan.move_at.Goals as goal
+
+pub hoist-requires : goal.hoist-requires
+hoist-requires c = let p = c.requires in (p.0, p.1, p.2, folded p.3 (sym c.parallel_edges.ensures ∙ c.if-parallel_edges.true))
+
+pub returns : goal.returns
+returns c =
+    let s = c.args in
+    plan_uncross s.da.size (points s.x.now s.y.now) s.ring.now s.da.id.0 s.db.id.0 (sym c.parallel_edges.ensures ∙ c.if-parallel_edges.false)

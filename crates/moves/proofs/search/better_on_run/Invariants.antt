@@ -1,0 +1,24 @@
+-- `better_on_run` meets its contract. The loop's invariant: the search on from here comes to the same pair, and `below` tells of the edge's start.
+use native.Mathlib.Omega.{arith}
+use Prim.Native.Nat.{◌+◌, ◌-◌, ◌≤◌}
+use mathlib.Core.Path.{◌≡◌, refl, sym, ◌∙◌, ap}
+use Rattle.geometry.specs.Plane.{lt_point}
+use Rattle.geometry.specs.Lent.{points}
+use Rattle.geometry.proofs.Reading.{read_given}
+use Rattle.polygon.proofs.Positions.{next_lt}
+use Rattle.machine.specs.Board.{pt_at}
+use Rattle.moves.specs.Best.{better, looking}
+use Rattle.moves.specs.Beside.{Starts}
+use Rattle.moves.specs.Runs.{edges_of}
+use Rattle.moves.proofs.RingPositions.{at_id}
+use Rattle.moves.proofs.Carried.{in_ring}
+use Rattle.moves.proofs.KinkSearch.{below_least, whole_run, pair_here, pair_goes, pair_ends}
+use Rattle.moves.proofs.search.better_on_run.Given as goal
+
+abbrev pub invariant-loop-edge : goal.invariant-loop-edge
+invariant-loop-edge l =
+    Starts l.kink.size (points l.x l.y) l.ring l.kink.id.0 l.below l.edge.at.0
+    × (looking l.kink.size (points l.x l.y) l.ring l.kink.id.0 l.best l.after l.edge.passed l.edge.at.0 ≡ looking l.kink.size (points l.x l.y) l.ring l.kink.id.0 l.best l.after l.initial.edge.passed l.initial.edge.at.0)
+
+abbrev pub decreases-loop-edge : goal.decreases-loop-edge
+decreases-loop-edge l = l.end - l.edge.passed
