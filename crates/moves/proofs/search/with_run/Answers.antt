@@ -13,6 +13,7 @@ use Rattle.moves.proofs.RingWalk.{Walk, walk_within, walk_runs, walk_sized}
 use Rattle.moves.proofs.Carried.{Carried, way_on, carried_first, step_over, three_in_range, carried_on}
 use Rattle.moves.proofs.KinkSearch.{best_stays, best_moves, kink_is, all_points, kink_goes, kinks_stop, kinks_end}
 use Rattle.moves.proofs.search.with_run.Goals as goal
+use Rattle.moves.proofs.search.with_run.Goals.{then-not-is_inside, else-not-is_inside}
 
 pub prev-requires : goal.prev-requires
 prev-requires c = c.requires.1.below
@@ -56,9 +57,10 @@ loop-left-preserved c =
     let pt = points s.x.now s.y.now in
     let k = c.loop-left.at.id.0 in
     let b = c.loop-left.best in
-    both c.if-not-is_inside.branch
-    (λ w. w.2 ∙ best_moves n pt s.ring.now (run_edges n s.a s.b) k b (sym kink_here ∙ w.0.taken) (walk_sized c.loop-left.invariant.0 (λ m. w.1.result ≡ better m pt s.ring.now k 0 (run_edges m s.a s.b) b) w.1.ensures))
-    (λ w. w.1 ∙ best_stays n pt s.ring.now (run_edges n s.a s.b) k b (sym kink_here ∙ w.0.left)) in
+    elim c.if-not-is_inside.branch [
+      then-not-is_inside w ↦ w.best-is ∙ best_moves n pt s.ring.now (run_edges n s.a s.b) k b (sym kink_here ∙ ap not w.if-not-is_inside.true) (walk_sized c.loop-left.invariant.0 (λ m. w.with_kink-best.result ≡ better m pt s.ring.now k 0 (run_edges m s.a s.b) b) w.with_kink-best.ensures)
+      | else-not-is_inside w ↦ w.best-is ∙ best_stays n pt s.ring.now (run_edges n s.a s.b) k b (sym kink_here ∙ ap not w.if-not-is_inside.false)
+    ] in
     let s = c.args in (
       kink_goes s.run.from.size (points s.x.now s.y.now) s.ring.now s.a s.b c.loop-left.invariant.0 c.loop-left-test.true best_now c.next-next.ensures,
       carried_on way_on c.loop-left.invariant.0 c.next-next.ensures c.loop-left.invariant.1 c.point_of-after.ensures,
