@@ -17,8 +17,7 @@ use Rattle.checks.proofs.Checking.{four_passed, early_long, early_lent, long, fr
 use Rattle.job.specs.Feed.{feed_of, Drawn}
 use Rattle.job.proofs.Feeds.{ring_drawn}
 use Rattle.host.specs.Numbers.{fed, feed_in_numbers}
-use Rattle.host.proofs.loop_feed.tour_feed.Statement.{statement}
-use Rattle.host.proofs.loop_feed.tour_feed.Tie as tie
+use Rattle.host.proofs.loop_feed.tour_feed.Goals as goal
 
 -- what a call is lent
 module _ (n : ℕ) (x y : List ℤ) (r : List ℕ) where
@@ -54,55 +53,37 @@ module _ (n : ℕ) (x y : List ℤ) (r : List ℕ) where
   unfolding fed
   told_feed e h = rw (eq-eqb number 0 e, h) refl
 
-first-four-requires : tie.Need-first-four-requires
-first-four-requires c κs =
-    let a = c.before.args in λ few h.
+pub first_four-number-requires : goal.first_four-number-requires
+first_four-number-requires c =
+    let a = c.args in λ few h.
     let l = all_long a.n a.x.now a.y.now a.ring.now (sym (short_is a.n a.x.now a.y.now a.ring.now) ∙ h) in (l 0 (omega arith), l 1 (omega arith), l 2 (omega arith))
 
--- the number is that of the definition
-is_number : (c : tie.After-first-four) → let a = c.before.before.args in c.first-four.result ≡ number a.n a.x.now a.y.now a.ring.now
-is_number c =
-    let a = c.before.before.args in
-    c.first-four.ensures ∙ ap (λ b. first_four a.n (points a.x.now a.y.now) b (take a.n a.ring.now)) (short_is a.n a.x.now a.y.now a.ring.now)
+pub returns-then-number-gt0 : goal.returns-then-number-gt0
+returns-then-number-gt0 c =
+    let is_number : let a = c.args in c.first_four-number.result ≡ number a.n a.x.now a.y.now a.ring.now = let a = c.args in
+    c.first_four-number.ensures ∙ ap (λ b. first_four a.n (points a.x.now a.y.now) b (take a.n a.ring.now)) (short_is a.n a.x.now a.y.now a.ring.now) in
+    let a = c.args in told_refused a.n a.x.now a.y.now a.ring.now is_number (omega (arith, c.if-number-gt0.true))
 
-cast-t14 : tie.Need-overflow-cast-t14
-cast-t14 c = search rules
+pub slice_bounds-feed-end : goal.slice_bounds-feed-end
+slice_bounds-feed-end c =
+    let is_number : let a = c.args in c.first_four-number.result ≡ number a.n a.x.now a.y.now a.ring.now = let a = c.args in
+    c.first_four-number.ensures ∙ ap (λ b. first_four a.n (points a.x.now a.y.now) b (take a.n a.ring.now)) (short_is a.n a.x.now a.y.now a.ring.now) in
+    let none : let a = c.args in number a.n a.x.now a.y.now a.ring.now ≡ 0 = sym is_number ∙ omega (arith, c.if-number-gt0.false) in
+    let a = c.args in enough a.n a.x.now a.y.now a.ring.now none 2 (omega arith)
 
-returns : tie.Need-returns
-returns c = let a = c.before.before.before.args in told_refused a.n a.x.now a.y.now a.ring.now (is_number c.before) (omega (arith, c.if1.true))
+pub feed-requires : goal.feed-requires
+feed-requires c =
+    let is_number : let a = c.args in c.first_four-number.result ≡ number a.n a.x.now a.y.now a.ring.now = let a = c.args in
+    c.first_four-number.ensures ∙ ap (λ b. first_four a.n (points a.x.now a.y.now) b (take a.n a.ring.now)) (short_is a.n a.x.now a.y.now a.ring.now) in
+    let none : let a = c.args in number a.n a.x.now a.y.now a.ring.now ≡ 0 = sym is_number ∙ omega (arith, c.if-number-gt0.false) in
+    let a = c.args in
+    subst⁻¹ (λ k. Drawn a.x.now a.y.now (take k a.ring.now)) (from_start a.n) (drawn a.n a.x.now a.y.now a.ring.now none)
 
-none : (c : tie.Else1) → let a = c.before.before.before.args in number a.n a.x.now a.y.now a.ring.now ≡ 0
-none c = sym (is_number c.before) ∙ omega (arith, c.if1.false)
-
-sub-feed : tie.Need-overflow-sub-feed
-sub-feed c = search rules
-
-part-feed-start : tie.Need-slice-bounds-feed-start
-part-feed-start c = search rules
-
-part-feed-end : tie.Need-slice-bounds-feed-end
-part-feed-end c = let a = c.before.before.before.args in enough a.n a.x.now a.y.now a.ring.now (none c) 2 (omega arith)
-
-feed-requires : tie.Need-feed-requires
-feed-requires c κs =
-    let a = c.before.before.before.before.args in
-    subst⁻¹ (λ k. Drawn a.x.now a.y.now (take k a.ring.now)) (from_start a.n) (drawn a.n a.x.now a.y.now a.ring.now (none c.before))
-
-returns_2 : tie.Need-returns-2
-returns_2 c =
-    let a = c.before.before.before.before.before.args in
-    told_feed a.n a.x.now a.y.now a.ring.now (none c.before.before)
+pub returns : goal.returns
+returns c =
+    let is_number : let a = c.args in c.first_four-number.result ≡ number a.n a.x.now a.y.now a.ring.now = let a = c.args in
+    c.first_four-number.ensures ∙ ap (λ b. first_four a.n (points a.x.now a.y.now) b (take a.n a.ring.now)) (short_is a.n a.x.now a.y.now a.ring.now) in
+    let none : let a = c.args in number a.n a.x.now a.y.now a.ring.now ≡ 0 = sym is_number ∙ omega (arith, c.if-number-gt0.false) in
+    let a = c.args in
+    told_feed a.n a.x.now a.y.now a.ring.now none
     (c.feed.ensures ∙ ap (λ k. feed_of (points a.x.now a.y.now) (take k a.ring.now)) (from_start a.n))
-
-pub tour-feed-spec : {M : Type 1} → statement M
-tour-feed-spec =
-    tie.close
-    (tie.spec
-    first-four-requires
-    cast-t14
-    returns
-    sub-feed
-    part-feed-start
-    part-feed-end
-    feed-requires
-    returns_2)
