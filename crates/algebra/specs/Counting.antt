@@ -1,5 +1,5 @@
 -- Counting the elements of a list that pass a test. What a list holds, how often and where is said by counts.
-use Rattle.std.specs.Prelude.{◌≡◌, refl, Bool, true, false, not, ◌&&◌, cond, List, [], ◌∷◌, ◌++◌, map, ℕ, zero, suc, ◌+◌, ◌-◌, ◌≤◌, ◌<◌, length, get_or, take, set}
+use Rattle.std.specs.Prelude.{◌≡◌, refl, Bool, true, false, not, ◌&&◌, cond, List, [], ◌∷◌, ◌++◌, map, ℕ, zero, suc, ◌+◌, ◌≤◌, ◌<◌, length, get_or, take, set}
 use Rattle.std.proofs.Common.{sym, ap, subst, ◌∙◌, arith, length-append, take-suc}
 use Rattle.std.proofs.Math.Seq.{take-length}
 

@@ -1,8 +1,8 @@
 -- Identities stated with names. `ident (num ∷ num ∷ []) (λ a b. (a :+ b) :* (a :- b) := a :* a :- b :* b) tt` proves the equation of every
 -- two numbers. `follows ks (λ .. . (goal := zero) ⇐ (hyp c e f ∷ ..)) tt` proves an equation from others, each given with its factor c:
 -- goal - zero is the sum of c·(e - f) as polynomials. A variable is a number or a pair of numbers; over expressions a pair has `ex` and `ey`.
-use Rattle.std.specs.Prelude.{◌≡◌, List, [], ◌∷◌, ℕ, suc, ◌+◌, T, ℤ, pos, ◌+ℤ◌, ◌*ℤ◌}
-use Rattle.algebra.specs.Polynomials.{E, var, lit, ◌:+◌, ◌:-◌, ◌:*◌, ⟦◌⟧, env, solve, null, norm, Hyp, lin, comb, Imp}
+use Rattle.std.specs.Prelude.{◌≡◌, List, [], ◌∷◌, ℕ, suc, T, ℤ}
+use Rattle.algebra.specs.Polynomials.{E, var, ◌:-◌, ⟦◌⟧, env, solve, null, norm, Hyp, lin, comb, Imp}
 
 -- two numbers
 pub record Pair : Type 0 where

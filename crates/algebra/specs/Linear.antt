@@ -1,7 +1,7 @@
 -- Linear arithmetic over ℤ by `omega`, with a set of rules that carry hypotheses and goals of ℤ's order into ℕ: `omega zarith`.
 -- A variable x counts as the two naturals P x and N x. A sum, a difference or a negation in a statement is opened by a fact listed with its
 -- arguments: `add a b`, `sub a b`, `opp a`. A product is an unknown.
-use Rattle.std.specs.Prelude.{◌≡◌, ◌+◌, ◌≤◌, ◌<◌, ℤ, pos, neg_ℤ, ◌+ℤ◌, ◌-ℤ◌, ◌≤ℤ◌, ◌<ℤ◌}
+use Rattle.std.specs.Prelude.{◌≡◌, ◌+◌, ◌≤◌, ◌<◌, ℤ, neg_ℤ, ◌+ℤ◌, ◌-ℤ◌, ◌≤ℤ◌, ◌<ℤ◌}
 use Rattle.std.proofs.Common.{ap, arith}
 use Rattle.algebra.specs.Integers.{P, N, is_self, is_eq, is_add, is_neg}
 use Rattle.algebra.specs.Order.{le_down, le_up, lt_down, lt_up}

@@ -1,7 +1,7 @@
 -- Polynomial identities over ℤ by computation. `E` are polynomial expressions over numbered variables, `⟦ e ⟧ ρ` their value.
 -- `norm e` is a sparse Horner form: `hor p q` is p + x·q, where x is the first variable, p speaks of the variables after it and q of all.
 -- `solve e f ρ tt : ⟦ e ⟧ ρ ≡ ⟦ f ⟧ ρ` wherever e − f normalizes to zero, which antt computes.
-use Rattle.std.specs.Prelude.{◌≡◌, refl, Bool, true, false, ◌&&◌, List, [], ◌∷◌, ℕ, zero, suc, ◌+◌, ◌*◌, ℤ, pos, negsuc, neg_ℤ, ◌+ℤ◌, ◌-ℤ◌, ◌*ℤ◌, T}
+use Rattle.std.specs.Prelude.{◌≡◌, refl, Bool, true, false, ◌&&◌, List, [], ◌∷◌, ℕ, zero, suc, ℤ, pos, negsuc, neg_ℤ, ◌+ℤ◌, ◌-ℤ◌, ◌*ℤ◌, T}
 use Rattle.std.proofs.Common.{sym, ◌∙◌, ap, ap₂, arith}
 use Rattle.std.proofs.Math.IntN.{+ℤ_idl, +ℤ_idr, +ℤ_comm, +ℤ_assoc, +ℤ_invr, zero-*ℤ, *ℤ-zero}
 use Rattle.algebra.specs.Integers.{is_self, is_eq, is_add, is_mul, is_neg, *ℤ-assoc, *ℤ-+ℤ, +ℤ-*ℤ}

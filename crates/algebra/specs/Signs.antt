@@ -1,5 +1,5 @@
 -- The signs of products, and what they say of the factors.
-use Rattle.std.specs.Prelude.{◌≡◌, ◌⊎◌, List, [], ◌∷◌, ◌+◌, ◌*◌, ◌≤◌, ◌<◌, ℤ, pos, neg_ℤ, ◌+ℤ◌, ◌*ℤ◌, ◌≤ℤ◌, ◌<ℤ◌}
+use Rattle.std.specs.Prelude.{◌≡◌, ◌⊎◌, List, [], ◌∷◌, ◌+◌, ℤ, pos, neg_ℤ, ◌+ℤ◌, ◌*ℤ◌, ◌≤ℤ◌, ◌<ℤ◌}
 use Rattle.std.proofs.Common.{ap, subst, inl, inr, ⊎_elim, arith}
 use Rattle.algebra.specs.Integers.{P, N, is_self, is_eq}
 use Rattle.algebra.specs.Polynomials.{var, lit, ◌:+◌, ◌:*◌, neg, solve}

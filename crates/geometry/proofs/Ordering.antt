@@ -1,5 +1,5 @@
 -- Points by a number that orders them, and segments on one line by the order of their ends.
-use mathlib.Core.Path.{◌≡◌, refl, sym, ◌∙◌, ap, ap₂}
+use mathlib.Core.Path.{◌≡◌, sym, ◌∙◌, ap, ap₂}
 use mathlib.Core.Bool.{Bool, true, false, ◌&&◌, ◌||◌, or_comm, or-false, and-true}
 use mathlib.Core.Logic.{◌⊎◌, ◌≢◌}
 use Prim.Native.Nat.{◌+◌, ◌*◌, ◌≤◌}

@@ -17,7 +17,6 @@ use Rattle.index_edge.proofs.Edges.{eq_edge_true, eq_edge_refl, eq_edge_sym, lt_
 use Rattle.intersection_set.specs.Store.{Rec, Store, no_rec, swap_remove, names, grown}
 use Rattle.intersection_set.specs.Numbered.{Numbered}
 use Rattle.intersection_set.specs.Lists.{none, slot_of, list_of, slots_of, next_of, prev_of}
-use Rattle.intersection_set.specs.Pool as pool
 use Rattle.intersection_set.specs.Pool.{Ends, no_ends, Pair, Pool, end0, end1}
 use Rattle.intersection_set.specs.Within.{Good}
 use Rattle.intersection_set.specs.Holds.{Each, Sound, HeldIn, Stack, Placed, Stored, Holds}

@@ -1,6 +1,6 @@
 -- Two ring edges that cross: their positions are no neighbours, and the two edges laid for them do not meet.
 use mathlib.Core.Path.{◌≡◌, sym, ap}
-use mathlib.Core.Bool.{true, false, not}
+use mathlib.Core.Bool.{true, false}
 use mathlib.Core.List.{List}
 use Prim.Native.Nat.{ℕ, ◌<◌}
 use Rattle.geometry.specs.Plane.{Point}

@@ -11,7 +11,7 @@ use Rattle.geometry.specs.Plane.{Point}
 use Rattle.index_edge.specs.Edge.{Edge, eq_edge, lt_edge, edge_in}
 use Rattle.intersection_set.specs.Store.{Rec, counted}
 use Rattle.machine.specs.Machine.{State, Traced, doubled, nothing_twice, start, begin, run_word, after, fresh}
-use Rattle.polygon.specs.Ring.{at, IsRing}
+use Rattle.polygon.specs.Ring.{IsRing}
 use Rattle.polygon.specs.Edges.{edges, IsEdge}
 use Rattle.machine.specs.Board.{meet_edges, Board}
 use Rattle.machine.specs.Answer.{delivered, finish, answer_from}

@@ -7,7 +7,7 @@ use Prim.Native.Nat.{ℕ, ◌≤◌, ◌<◌}
 use Rattle.geometry.specs.Plane.{Point, turn, lt_point, collinear}
 use Rattle.geometry.specs.Segment.{meets}
 use Rattle.geometry.proofs.Points.{zero_is, turn_second, lt_point_flip}
-use Rattle.polygon.specs.Ring.{next, prev, at}
+use Rattle.polygon.specs.Ring.{next, prev}
 use Rattle.machine.specs.Board.{pt_at, is_straight_line}
 use Rattle.algebra.specs.Cases.{both, true_or_false, never}
 use Rattle.polygon.proofs.Positions.{prev_lt, next_lt, next_prev, next_not, prev_not}

@@ -3,11 +3,11 @@ use mathlib.Core.Path.{◌≡◌, ap}
 use mathlib.Core.Bool.{true, ◌&&◌}
 use mathlib.Core.List.{List, [], ◌∷◌, ◌++◌}
 use mathlib.Core.Logic.{◌≢◌}
-use Prim.Native.Nat.{ℕ, zero, suc, ◌+◌, ◌<◌}
+use Prim.Native.Nat.{ℕ, zero, suc, ◌<◌}
 use Rattle.geometry.specs.Plane.{Point, lt_point, min_point, max_point, collinear}
 use Rattle.geometry.specs.Segment.{inside}
 use Rattle.machine.specs.Search.{Mergable, none, merge, or_else, run_back, run_on, first_kink, search_edges, kink_and_edge}
-use Rattle.polygon.specs.Ring.{next, prev, dist, at, stretch}
+use Rattle.polygon.specs.Ring.{next, prev, dist, stretch}
 use Rattle.machine.specs.Board.{pt_at, kink_at, is_straight_line}
 use Rattle.algebra.specs.Cases.{both, true_or_false, and_left, and_right}
 use Rattle.polygon.proofs.Positions.{next_lt, prev_lt}

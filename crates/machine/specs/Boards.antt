@@ -1,12 +1,11 @@
 -- Boards with their answers, as rows: document 01's starred ones, and six that catch mistakes which those miss.
 -- `rows_hold` (proofs/Boards) proves them all together by computation.
-use Rattle.std.specs.Prelude.{◌≡◌, refl, Bool, true, false, not, ◌&&◌, cond, List, [], ◌∷◌, ℕ, ℤ, pos, negsuc, eqb, length, get_or}
+use Rattle.std.specs.Prelude.{Bool, true, false, not, ◌&&◌, cond, List, [], ◌∷◌, ℕ, ℤ, pos, negsuc, eqb, length, get_or}
 use Rattle.algebra.specs.Ranges.{up_from}
 use Rattle.geometry.specs.Plane.{Point}
 use Rattle.geometry.specs.Segment.{meets}
 use Rattle.index_edge.specs.Edge.{Edge, edge, eq_edge}
 use Rattle.intersection_set.specs.Store.{Rec, counted}
-use Rattle.machine.specs.Board.{meet_edges}
 use Rattle.machine.specs.Machine.{Laid, place, after}
 use Rattle.machine.specs.Answer.{Answer, refused, unfinished, delivered, call}
 

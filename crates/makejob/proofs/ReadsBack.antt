@@ -1,8 +1,8 @@
 -- What `tourjob` prints of a number, a line of `makejob` reads back as that number.
 use mathlib.Core.Path.{◌≡◌, refl, ap, ◌∙◌}
-use mathlib.Core.Bool.{true, false, cond}
+use mathlib.Core.Bool.{true, false}
 use mathlib.Core.List.{List, [], ◌∷◌}
-use Prim.Native.Nat.{ℕ, zero, suc, ◌+◌, ◌^◌, ◌≤◌, ◌<◌}
+use Prim.Native.Nat.{ℕ, suc, ◌^◌, ◌≤◌, ◌<◌}
 use native.Mathlib.Omega.{arith}
 use lib.ListN.{length}
 use lib.IntN.{ℤ, pos, negsuc}
@@ -11,7 +11,7 @@ use borrow.Author.Tests.{lt-ltb, le-leb, leb-true, ne_eqb}
 use Rattle.algebra.specs.Cases.{both, le_cases, and_left}
 use Rattle.job.specs.Decimal.{decimal, integer, is_digit, all_digits}
 use Rattle.job.proofs.Decimals.{decimal_right, length_small, length_more}
-use Rattle.makejob.specs.Numbers.{number, natural, minus_first, minus, plus, coordinate}
+use Rattle.makejob.specs.Numbers.{number, natural, minus_first, coordinate}
 use Rattle.makejob.proofs.Capped.{natural_digits}
 
 -- a minus sign is no digit

@@ -18,7 +18,7 @@ use Rattle.job.specs.Job.{x_at, y_at, pick_at, refusal, accepted}
 use Rattle.job.specs.Text.{refused_line}
 use Rattle.job.proofs.Written.{table, length_table, over_at}
 use Rattle.job.proofs.ReadJobs.{WasRead, WasRefused}
-use Rattle.tour.specs.Printed.{told, xs, ys, printed}
+use Rattle.tour.specs.Printed.{told, printed}
 
 past_end : (l : List ℤ) (i : ℕ) → length l ≤ i → coord l i ≡ pos 0
 past_end [] i h = refl

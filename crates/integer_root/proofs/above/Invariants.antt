@@ -1,9 +1,5 @@
 -- `above` meets its contract. The invariant: `rest` is v divided by the square of x; while some is left that square is at most v, so x is below 2³².
-use mathlib.Core.Path.{◌≡◌}
-use Prim.Native.Nat.{◌+◌, ◌*◌, ◌/◌, ◌≤◌, ◌<◌}
-use native.Mathlib.Omega.{arith}
-use Rattle.algebra.specs.Cases.{both, le_cases}
-use Rattle.algebra.specs.Size.{mul_bound}
+use Prim.Native.Nat.{◌+◌, ◌*◌, ◌≤◌, ◌<◌}
 use Rattle.integer_root.proofs.above.Given as goal
 
 abbrev pub invariant-loop-rest : goal.invariant-loop-rest

@@ -1,9 +1,5 @@
 -- `integer_root` meets its contract. The invariant: x is not below the root, so 0 is reached for 0 alone; a step that is no less than x tells that x is the root.
-use mathlib.Core.Path.{◌≡◌}
 use Prim.Native.Nat.{◌+◌, ◌*◌, ◌≤◌, ◌<◌}
-use native.Mathlib.Omega.{arith}
-use borrow.Author.Rules.{rules}
-use Rattle.integer_root.proofs.Roots.{root_only}
 use Rattle.integer_root.proofs.integer_root.Given as goal
 
 abbrev pub invariant-loop-x : goal.invariant-loop-x

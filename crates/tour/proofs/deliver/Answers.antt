@@ -11,7 +11,6 @@ use Rattle.two_opt.specs.Entry.{answer_of}
 use Rattle.tour.proofs.Delivered.{delivered_ring}
 use Rattle.job.proofs.Feeds.{ring_drawn}
 use Rattle.tour.proofs.Room.{cramped, roomy}
-use borrow.Author.Rules.{rules}
 use Rattle.tour.proofs.deliver.Goals as goal
 
 pub tell-requires : goal.tell-requires
@@ -19,10 +18,13 @@ tell-requires c =
     let a = c.args in
     let r = c.two_opt_moves-answer in
     let n = a.n in
-    let pt = points a.x.now a.y.now in record { n_bound = (c.requires.1, omega (arith, c.requires.1, r.auto.ring), c.requires.2); by_index = λ m k e.
+    let pt = points a.x.now a.y.now in record {
+      n_bound = (c.requires.1, omega (arith, c.requires.1, r.auto.ring), c.requires.2);
+      by_index = λ m k e.
           ring_drawn n a.x.now a.y.now _ c.requires.0
           (delivered_ring n pt (cramped n a.x.now a.y.now) (up_from 0 n) a.picks.now
-          (sym r.ensures.answers ∙ ap (λ t. answer_of t (take n r.new.ring)) e)); }
+          (sym r.ensures.answers ∙ ap (λ t. answer_of t (take n r.new.ring)) e));
+    }
 
 pub returns : goal.returns
 returns c =
@@ -30,4 +32,4 @@ returns c =
     let n = a.n in
     let pt = points a.x.now a.y.now in
     let e = c.two_opt_moves-answer.ensures.answers ∙ ap (λ t. call n pt t (up_from 0 n) a.picks.now) (roomy n a.x.now a.y.now c.requires.0 c.requires.1) in
-    record { put = subst (λ (t : Answer). Put a.out.now 0 (told pt t) c.tell.result c.tell.new.out) e c.tell.ensures.put; within = c.tell.ensures.within; }
+    record { put = subst (λ (t : Answer). Put a.out.now 0 (told pt t) c.tell.result c.tell.new.out) e c.tell.ensures.put; within = c.tell.ensures.within }

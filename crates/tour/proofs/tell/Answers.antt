@@ -6,7 +6,6 @@ use lib.ListN.{length-take}
 use Rattle.job.specs.Text.{report_text}
 use Rattle.job.proofs.Feeds.{drawn_empty}
 use Rattle.tour.specs.Printed.{told}
-use borrow.Author.Rules.{rules}
 use Rattle.tour.proofs.tell.Goals as goal
 
 pub put_report-requires : goal.put_report-requires
@@ -26,12 +25,12 @@ unfolding told report_text
 returns-in-Delivered c =
     let e : c.args.n - 0 ≡ c.args.n = omega arith in
     let t = c.put_report.ensures in
-    record { put = rw c.in-Delivered.is (rw e at t.put); within = t.within; }
+    record { put = rw c.in-Delivered.is (rw e at t.put); within = t.within }
 
 pub returns-in-Stopped : goal.returns-in-Stopped
 unfolding told report_text
-returns-in-Stopped c = let t = c.put_report-in-Stopped.ensures in record { put = rw c.in-Stopped.is t.put; within = t.within; }
+returns-in-Stopped c = let t = c.put_report-in-Stopped.ensures in record { put = rw c.in-Stopped.is t.put; within = t.within }
 
 pub returns-in-Refused : goal.returns-in-Refused
 unfolding told report_text
-returns-in-Refused c = let t = c.put_report-in-Refused.ensures in record { put = rw c.in-Refused.is t.put; within = t.within; }
+returns-in-Refused c = let t = c.put_report-in-Refused.ensures in record { put = rw c.in-Refused.is t.put; within = t.within }

@@ -6,7 +6,6 @@ use Rattle.job.specs.Text.{report_text}
 use Rattle.job.proofs.Feeds.{drawn_empty}
 use Rattle.job.proofs.ReadJobs.{was_read, was_refused, read_lent}
 use Rattle.tour.proofs.Jobs.{refused_printed, read_printed}
-use borrow.Author.Rules.{rules}
 use Rattle.tour.proofs.tour.Goals as goal
 
 pub put_report-requires : goal.put_report-requires
@@ -27,11 +26,11 @@ unfolding report_text
 returns-in-Refused c =
     let w = was_refused _ _ _ _ c.read_job.ensures c.in-Refused.is in
     let t = c.put_report.ensures in
-    record { put = rw (← refused_printed _ _ _ _ refl refl refl w) t.put; within = t.within; }
+    record { put = rw (← refused_printed _ _ _ _ refl refl refl w) t.put; within = t.within }
 
 pub returns-in-Read : goal.returns-in-Read
 returns-in-Read c =
     let w = was_read _ _ _ _ c.read_job.ensures c.in-Read.is in
     let e : c.in-Read.m - 0 ≡ c.in-Read.m = omega arith in
     let t = c.deliver.ensures in
-    record { put = rw (← read_printed _ _ _ _ refl refl refl refl refl w) (rw e at t.put); within = t.within; }
+    record { put = rw (← read_printed _ _ _ _ refl refl refl refl refl w) (rw e at t.put); within = t.within }

@@ -2,7 +2,6 @@
 use mathlib.Core.Path.{refl, sym, ◌∙◌}
 use native.Mathlib.Omega.{arith}
 use borrow.Author.Tests.{lt-ltb, le-ltb}
-use Rattle.algebra.specs.Cases.{not_true, not_false}
 use Rattle.checks.proofs.refusal.early.Goals as goal
 
 pub returns-then-n-gt256 : goal.returns-then-n-gt256

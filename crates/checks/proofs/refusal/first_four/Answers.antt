@@ -2,9 +2,7 @@
 use mathlib.Core.Path.{◌≡◌, sym, ◌∙◌, subst}
 use Prim.Native.Nat.{◌≤◌, ◌<◌}
 use native.Mathlib.Omega.{arith}
-use borrow.Author.Rules.{rules}
 use lib.ListN.{length, take, length-take}
-use Rattle.algebra.specs.Cases.{not_true, not_false}
 use Rattle.geometry.specs.Lent.{points}
 use Rattle.polygon.specs.Ring.{each_once}
 use Rattle.checks.specs.Checks.{early}

@@ -1,6 +1,5 @@
 -- `is_colinear` meets its contract: in the points' own order each number stands at its own position.
 use mathlib.Core.Path.{◌∙◌, ap}
-use borrow.Author.Rules.{rules}
 use Rattle.geometry.specs.Plane.{is_zero, collinear}
 use Rattle.geometry.specs.Lent.{points}
 use Rattle.geometry.proofs.Reading.{zero_bits}

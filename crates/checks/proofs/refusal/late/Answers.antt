@@ -1,9 +1,7 @@
 -- `late` meets its contract, exit by exit.
 use mathlib.Core.Path.{refl, sym, ◌∙◌}
 use native.Mathlib.Omega.{arith}
-use borrow.Author.Rules.{rules}
 use borrow.Author.Tests.{lt-ltb, le-ltb}
-use Rattle.algebra.specs.Cases.{not_true, not_false}
 use Rattle.checks.proofs.refusal.late.Goals as goal
 
 pub returns-then-not-none_alike : goal.returns-then-not-none_alike

@@ -4,7 +4,7 @@ use Prim.Native.Nat.{◌<◌}
 use native.Mathlib.Omega.{arith}
 use Rattle.algebra.specs.Ranges.{up_from}
 use Rattle.geometry.specs.Lent.{points, Lent}
-use Rattle.checks.specs.Checks.{early, late}
+use Rattle.checks.specs.Checks.{early}
 use Rattle.checks.proofs.Checking.{refused_early, refused_late, refused_line_lem, early_small, early_long, early_lent, in_order_once}
 use Rattle.checks.proofs.refusal.refusal_in_order.Goals as goal
 

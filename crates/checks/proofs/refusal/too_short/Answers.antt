@@ -4,7 +4,6 @@ use mathlib.Core.Path.{refl}
 use Prim.Native.Nat.{◌-◌, ◌*◌}
 use lib.Dec.{ltb}
 use native.Mathlib.Omega.{arith}
-use borrow.Author.Rules.{rules}
 use Rattle.checks.proofs.refusal.too_short.Goals as goal
 
 pub returns-then-n-gt256 : goal.returns-then-n-gt256

@@ -1,9 +1,6 @@
 use native.Mathlib.Omega.{arith}
-use Prim.Native.Nat.{◌≤◌, ◌-◌}
-use mathlib.Core.Path.{◌≡◌, refl, sym, ◌∙◌}
-use mathlib.Core.Bool.{true}
-use Rattle.algebra.specs.Ranges.{all_below, all_more, all_fails, all_done}
-use Rattle.algebra.specs.Cases.{not_true, not_false}
+use mathlib.Core.Path.{refl, sym, ◌∙◌}
+use Rattle.algebra.specs.Ranges.{all_more, all_fails, all_done}
 use Rattle.machine.specs.Board.{is_straight_line}
 use Rattle.geometry.specs.Lent.{points}
 use Rattle.checks.proofs.start.all_colinear.Goals as goal

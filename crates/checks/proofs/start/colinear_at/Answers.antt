@@ -1,6 +1,5 @@
 -- `colinear_at` meets its contract: it asks at position i.
 use mathlib.Core.Path.{◌∙◌, ap}
-use borrow.Author.Rules.{rules}
 use Rattle.geometry.specs.Lent.{points}
 use Rattle.polygon.specs.declared.position.Position.{Position}
 use Rattle.machine.specs.Board.{is_straight_line}

@@ -1,10 +1,8 @@
 -- `in_range` meets its contract. The loop's invariant: every point before i is within the limits.
-use native.Mathlib.Omega.{arith}
 use Prim.Native.Nat.{◌≤◌, ◌-◌}
-use mathlib.Core.Path.{◌≡◌, refl, sym, ◌∙◌}
+use mathlib.Core.Path.{◌≡◌}
 use mathlib.Core.Bool.{true}
-use Rattle.algebra.specs.Ranges.{all_below, all_more, all_fails, all_done}
-use Rattle.algebra.specs.Cases.{not_true, not_false}
+use Rattle.algebra.specs.Ranges.{all_below}
 use Rattle.geometry.specs.Plane.{near_point}
 use Rattle.geometry.specs.Lent.{points}
 use Rattle.checks.proofs.start.in_range.Given as goal

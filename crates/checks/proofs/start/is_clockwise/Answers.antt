@@ -2,7 +2,6 @@
 use mathlib.Core.Path.{◌∙◌, ap}
 use lib.Signed.{lt_z}
 use lib.IntN.{ℤ, pos}
-use borrow.Author.Rules.{rules}
 use Rattle.geometry.specs.Lent.{points}
 use Rattle.geometry.proofs.Reading.{read_64}
 use Rattle.polygon.specs.declared.position.Position.{Position}

@@ -1,8 +1,7 @@
 use native.Mathlib.Omega.{arith}
-use Prim.Native.Nat.{◌≤◌, ◌-◌}
-use mathlib.Core.Path.{◌≡◌, refl, sym, ◌∙◌, ap}
-use mathlib.Core.Bool.{true, not}
-use Rattle.algebra.specs.Ranges.{all_below, all_more, all_fails, all_done}
+use mathlib.Core.Path.{refl, sym, ◌∙◌, ap}
+use mathlib.Core.Bool.{not}
+use Rattle.algebra.specs.Ranges.{all_more, all_fails, all_done}
 use Rattle.geometry.specs.Plane.{eq_point}
 use Rattle.geometry.specs.Lent.{points}
 use Rattle.geometry.proofs.Reading.{here}

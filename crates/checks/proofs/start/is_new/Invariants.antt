@@ -1,12 +1,10 @@
 -- `is_new` meets its contract. The loop's invariant: no point before j equals point i.
-use native.Mathlib.Omega.{arith}
 use Prim.Native.Nat.{◌≤◌, ◌-◌}
-use mathlib.Core.Path.{◌≡◌, refl, sym, ◌∙◌, ap}
+use mathlib.Core.Path.{◌≡◌}
 use mathlib.Core.Bool.{true, not}
-use Rattle.algebra.specs.Ranges.{all_below, all_more, all_fails, all_done}
+use Rattle.algebra.specs.Ranges.{all_below}
 use Rattle.geometry.specs.Plane.{eq_point}
 use Rattle.geometry.specs.Lent.{points}
-use Rattle.geometry.proofs.Reading.{here}
 use Rattle.checks.proofs.start.is_new.Given as goal
 
 abbrev pub invariant-loop-j : goal.invariant-loop-j

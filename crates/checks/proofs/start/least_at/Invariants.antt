@@ -1,10 +1,8 @@
 -- `least_at` meets its contract. The loop's invariant: `least` is the position of the least of the points before i.
-use native.Mathlib.Omega.{arith}
 use Prim.Native.Nat.{◌≤◌, ◌<◌, ◌-◌}
-use mathlib.Core.Path.{◌≡◌, refl, ◌∙◌, ap}
+use mathlib.Core.Path.{◌≡◌}
 use Rattle.machine.specs.Answer.{least_to}
 use Rattle.geometry.specs.Lent.{points}
-use Rattle.checks.proofs.Least.{least_more, lesser_lt}
 use Rattle.checks.proofs.start.least_at.Given as goal
 
 abbrev pub invariant-loop-i : goal.invariant-loop-i

@@ -1,6 +1,5 @@
 -- `lesser_at` meets its contract: it compares the points at the two positions.
 use mathlib.Core.Path.{sym, ◌∙◌, ap}
-use borrow.Author.Rules.{rules}
 use Rattle.geometry.specs.Plane.{lt_point}
 use Rattle.geometry.specs.Lent.{points}
 use Rattle.geometry.proofs.Choosing.{taken, left}

@@ -4,7 +4,6 @@ use mathlib.Core.Bool.{not}
 use Rattle.geometry.specs.Lent.{spot}
 use Rattle.geometry.specs.Segment.{admits}
 use Rattle.geometry.specs.Answers.{end_of, mark_of}
-use borrow.Author.Rules.{rules}
 use Rattle.geometry.proofs.line_segment.admits.Goals as goal
 
 pub returns-in-Exclusive : goal.returns-in-Exclusive

@@ -3,7 +3,6 @@ use mathlib.Core.Path.{◌∙◌, ap, ap₂}
 use mathlib.Core.Bool.{not, ◌&&◌}
 use Rattle.geometry.specs.Plane.{lt_point}
 use Rattle.geometry.specs.Lent.{spot}
-use borrow.Author.Rules.{rules}
 use Rattle.geometry.proofs.line_segment.between.Goals as goal
 
 pub returns : goal.returns

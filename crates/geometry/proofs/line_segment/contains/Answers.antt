@@ -1,13 +1,12 @@
 -- `contains` meets its contract: the check is the definition's, and past it the test is asked.
 use mathlib.Core.Path.{◌≡◌, sym, ◌∙◌, ap, ap₂}
 use mathlib.Core.Bool.{◌&&◌}
-use Rattle.algebra.specs.Cases.{not_true, not_false, and_left, and_right}
+use Rattle.algebra.specs.Cases.{and_left, and_right}
 use Rattle.geometry.specs.Plane.{near_point}
 use Rattle.geometry.specs.Lent.{spot}
 use Rattle.geometry.specs.Answers.{answered, proper, end_of}
 use Rattle.geometry.proofs.Reading.{in_range_lem}
 use Rattle.geometry.proofs.Choosing.{passed, stopped, ends_in_range}
-use borrow.Author.Rules.{rules}
 use Rattle.geometry.proofs.line_segment.contains.Goals as goal
 
 pub returns-then-not-is_proper-in_range : goal.returns-then-not-is_proper-in_range

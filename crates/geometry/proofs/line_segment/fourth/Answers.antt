@@ -1,5 +1,5 @@
 -- `fourth` meets its contract: the difference and the sum fit, as its caller shows.
-use lib.IntN.{◌+ℤ◌, ◌-ℤ◌}
+use lib.IntN.{◌-ℤ◌}
 use mir.Syntax.{w64}
 use mir.Val.{SFits}
 use mir.ValLaws.{to_z-of_z}

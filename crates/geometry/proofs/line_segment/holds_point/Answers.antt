@@ -5,7 +5,6 @@ use Rattle.geometry.specs.Plane.{turn, is_zero}
 use Rattle.geometry.specs.Segment.{between}
 use Rattle.geometry.specs.Lent.{spot, InRange}
 use Rattle.geometry.proofs.Reading.{read_64}
-use borrow.Author.Rules.{rules}
 use Rattle.geometry.proofs.line_segment.holds_point.Goals as goal
 
 pub turn_of-requires : goal.turn_of-requires

@@ -3,7 +3,6 @@ use mathlib.Core.Path.{sym, ◌∙◌, subst}
 use Rattle.geometry.specs.Segment.{inside}
 use Rattle.geometry.specs.Lent.{InRange}
 use Rattle.geometry.proofs.Reading.{here_in_range}
-use borrow.Author.Rules.{rules}
 use Rattle.geometry.proofs.line_segment.inside_at.Goals as goal
 
 pub is_inside-requires : goal.is_inside-requires

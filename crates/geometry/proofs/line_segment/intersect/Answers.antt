@@ -5,7 +5,6 @@ use Rattle.geometry.specs.Plane.{turn}
 use Rattle.geometry.specs.Segment.{shared, meets}
 use Rattle.geometry.specs.Lent.{InRange}
 use Rattle.geometry.proofs.Reading.{read_given}
-use borrow.Author.Rules.{rules}
 use Rattle.geometry.proofs.line_segment.intersect.Goals as goal
 
 pub meet_by_turns-requires : goal.meet_by_turns-requires

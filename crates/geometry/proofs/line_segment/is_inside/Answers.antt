@@ -1,7 +1,6 @@
 -- `is_inside` meets its contract: its parts are those of the definition, in another order, and the keys order as the points do.
 use mathlib.Core.Path.{◌≡◌, refl, sym, ◌∙◌, ap}
 use mathlib.Core.Bool.{Bool, true, false, not, ◌&&◌}
-use borrow.Author.Rules.{rules}
 use Rattle.geometry.specs.Plane.{is_zero, lt_point, min_point, max_point, collinear}
 use Rattle.geometry.specs.Lent.{spot}
 use Rattle.geometry.proofs.Reading.{read_64}

@@ -1,7 +1,6 @@
 -- `is_proper` meets its contract: its parts are those of the definition.
 use mathlib.Core.Path.{ap, ap₂}
 use mathlib.Core.Bool.{not, ◌&&◌}
-use borrow.Author.Rules.{rules}
 use Rattle.geometry.proofs.line_segment.is_proper.Goals as goal
 
 pub returns : goal.returns

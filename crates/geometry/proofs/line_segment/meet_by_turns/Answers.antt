@@ -6,7 +6,6 @@ use Rattle.geometry.specs.Segment.{same_side, parallel}
 use Rattle.geometry.specs.Lent.{spot}
 use Rattle.geometry.proofs.Reading.{read_64, read_given}
 use Rattle.geometry.proofs.MeetingParts.{meets_on_line, meets_off_line, fourth_is, fourth_fits}
-use borrow.Author.Rules.{rules}
 use Rattle.geometry.proofs.line_segment.meet_by_turns.Goals as goal
 
 pub returns-then-is_zero : goal.returns-then-is_zero

@@ -1,11 +1,10 @@
 -- `meets` meets its contract: the check is the definition's, and past it the test is asked.
 use mathlib.Core.Path.{◌≡◌, sym, ◌∙◌, ap, ap₂}
 use mathlib.Core.Bool.{◌&&◌}
-use Rattle.algebra.specs.Cases.{not_true, not_false, and_left, and_right}
+use Rattle.algebra.specs.Cases.{and_left, and_right}
 use Rattle.geometry.specs.Lent.{spot}
 use Rattle.geometry.specs.Answers.{answered, proper}
 use Rattle.geometry.proofs.Choosing.{passed, stopped, ends_in_range}
-use borrow.Author.Rules.{rules}
 use Rattle.geometry.proofs.line_segment.meets.Goals as goal
 
 pub returns-then-not-is_proper : goal.returns-then-not-is_proper

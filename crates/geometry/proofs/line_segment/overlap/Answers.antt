@@ -1,7 +1,6 @@
 -- `overlap` meets its contract: the greater of the lesser ends is compared with the lesser of the greater ends.
 use mathlib.Core.Path.{◌∙◌, ap₂}
 use Rattle.geometry.specs.Plane.{lt_point, min_point, max_point}
-use borrow.Author.Rules.{rules}
 use Rattle.geometry.proofs.line_segment.overlap.Goals as goal
 
 pub returns : goal.returns

@@ -1,7 +1,6 @@
 -- `share` meets its contract: each end is compared with each.
 use mathlib.Core.Path.{ap₂}
 use mathlib.Core.Bool.{◌||◌}
-use borrow.Author.Rules.{rules}
 use Rattle.geometry.proofs.line_segment.share.Goals as goal
 
 pub returns : goal.returns

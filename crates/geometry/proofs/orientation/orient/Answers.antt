@@ -1,13 +1,11 @@
 -- `orient` meets its contract: where every coordinate is within the limits, the answer is the sign of the turn.
 use mathlib.Core.Path.{◌≡◌, sym, ◌∙◌, ap, ap₂}
 use mathlib.Core.Bool.{◌&&◌}
-use Rattle.algebra.specs.Cases.{not_true, not_false}
 use Rattle.geometry.specs.Plane.{near_point}
 use Rattle.geometry.specs.Lent.{spot}
 use Rattle.geometry.specs.Answers.{answered, sign}
 use Rattle.geometry.proofs.Reading.{read_64}
 use Rattle.geometry.proofs.Choosing.{passed, stopped, three_in_range}
-use borrow.Author.Rules.{rules}
 use Rattle.geometry.proofs.orientation.orient.Goals as goal
 
 pub returns-then-not-in_range : goal.returns-then-not-in_range

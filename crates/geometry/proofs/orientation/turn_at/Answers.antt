@@ -3,7 +3,6 @@ use mathlib.Core.Path.{sym, ◌∙◌, subst}
 use Rattle.geometry.specs.Plane.{turn}
 use Rattle.geometry.specs.Lent.{InRange}
 use Rattle.geometry.proofs.Reading.{read_64, here_in_range}
-use borrow.Author.Rules.{rules}
 use Rattle.geometry.proofs.orientation.turn_at.Goals as goal
 
 pub turn_of-requires : goal.turn_of-requires

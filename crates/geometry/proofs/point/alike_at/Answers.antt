@@ -1,7 +1,6 @@
 -- `alike_at` meets its contract: the two points are those of these numbers.
 use mathlib.Core.Path.{◌∙◌, ap₂}
 use Rattle.geometry.specs.Plane.{eq_point}
-use borrow.Author.Rules.{rules}
 use Rattle.geometry.proofs.point.alike_at.Goals as goal
 
 pub returns : goal.returns

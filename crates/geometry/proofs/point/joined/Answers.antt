@@ -1,5 +1,4 @@
 -- `joined` meets its contract: the product and the sum fit 64 bits.
-use native.Mathlib.Omega.{arith}
 use lib.IntN.{pos, ◌+ℤ◌, ◌*ℤ◌}
 use mir.Syntax.{w64}
 use mir.Val.{SFits}

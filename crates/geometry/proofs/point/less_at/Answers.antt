@@ -1,7 +1,6 @@
 -- `less_at` meets its contract: the two points are those of these numbers.
 use mathlib.Core.Path.{◌∙◌, ap₂}
 use Rattle.geometry.specs.Plane.{lt_point}
-use borrow.Author.Rules.{rules}
 use Rattle.geometry.proofs.point.less_at.Goals as goal
 
 pub returns : goal.returns

@@ -1,7 +1,6 @@
 -- `lesser` meets its contract: the test of the order chooses.
 use mathlib.Core.Path.{sym, ◌∙◌}
 use Rattle.geometry.proofs.Choosing.{taken, left}
-use borrow.Author.Rules.{rules}
 use Rattle.geometry.proofs.point.lesser.Goals as goal
 
 pub returns-then-is_less : goal.returns-then-is_less

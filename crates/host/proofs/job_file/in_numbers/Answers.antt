@@ -1,6 +1,5 @@
 -- `in_numbers` meets its contract, by cases of the outcome.
 use mathlib.Core.Path.{refl}
-use borrow.Author.Rules.{rules}
 use Rattle.host.proofs.job_file.in_numbers.Goals as goal
 
 pub returns-in-Read : goal.returns-in-Read

@@ -1,6 +1,5 @@
 -- `in_numbers` meets its contract, by cases of the answer.
 use mathlib.Core.Path.{refl}
-use borrow.Author.Rules.{rules}
 use Rattle.host.proofs.loops.in_numbers.Goals as goal
 
 pub returns-in-Delivered : goal.returns-in-Delivered

@@ -1,5 +1,4 @@
 -- `tour_resolve_self_intersections` meets its contract: it is the answer of the entry in numbers, and the buffers are the entry's.
-use borrow.Author.Rules.{rules}
 use Rattle.host.proofs.loops.tour_resolve_self_intersections.Goals as goal
 
 pub returns : goal.returns

@@ -1,5 +1,4 @@
 -- `tour_two_opt_moves` meets its contract: it is the answer of the entry in numbers, and the buffers are the entry's.
-use borrow.Author.Rules.{rules}
 use Rattle.host.proofs.loops.tour_two_opt_moves.Goals as goal
 
 pub returns : goal.returns

@@ -3,7 +3,6 @@ use mathlib.Core.Path.{◌∙◌, ap}
 use mir.Syntax.{w32}
 use mir.ValLaws.{to_z-of_z}
 use Rattle.host.specs.Numbers.{yes_or_no}
-use borrow.Author.Rules.{rules}
 use Rattle.host.proofs.meeting.tour_meets.Goals as goal
 
 pub returns : goal.returns

@@ -1,6 +1,5 @@
 -- `in_numbers` meets its contract, by cases of the fault.
 use mathlib.Core.Path.{refl}
-use borrow.Author.Rules.{rules}
 use Rattle.host.proofs.ring_fault.in_numbers.Goals as goal
 
 pub returns-in-At : goal.returns-in-At

@@ -2,7 +2,6 @@
 use mathlib.Core.Path.{◌∙◌}
 use lib.ListN.{length}
 use Rattle.intersection_set.proofs.Starting.{holds_start}
-use borrow.Author.Rules.{rules}
 use Rattle.intersection_set.proofs.intersection_set.clear.Goals as goal
 
 pub returns : goal.returns

@@ -1,11 +1,8 @@
 -- `clear_heads` meets its contract: after i turns the first i heads are none.
-use Prim.Native.Nat.{ℕ, ◌≤◌, ◌-◌}
-use mathlib.Core.Path.{◌≡◌, refl, ap, ◌∙◌}
-use mathlib.Core.List.{List}
-use native.Mathlib.Omega.{arith}
-use lib.ListN.{length, set, length-set}
-use Rattle.intersection_set.specs.Lists.{none}
-use Rattle.intersection_set.proofs.Filling.{fill, fill_zero, fill_suc, fill_all}
+use Prim.Native.Nat.{◌≤◌, ◌-◌}
+use mathlib.Core.Path.{◌≡◌}
+use lib.ListN.{length}
+use Rattle.intersection_set.proofs.Filling.{fill}
 use Rattle.intersection_set.proofs.intersection_set.clear_heads.Given as goal
 
 abbrev pub invariant-loop-i : goal.invariant-loop-i

@@ -2,7 +2,6 @@
 use mathlib.Core.Path.{sym, ap, ◌∙◌}
 use Rattle.intersection_set.specs.Pool.{Pair, pair_of}
 use Rattle.intersection_set.proofs.Words.{pair_reads}
-use borrow.Author.Rules.{rules}
 use Rattle.intersection_set.proofs.intersection_set.edge0_at.Goals as goal
 
 pub returns : goal.returns

@@ -2,7 +2,6 @@
 use Prim.Native.Nat.{◌*◌, ◌≤◌}
 use native.Mathlib.Nat.{mul-le-mul}
 use native.Mathlib.Omega.{arith}
-use borrow.Author.Rules.{rules}
 use Rattle.intersection_set.proofs.intersection_set.place.Goals as goal
 
 pub overflow_mul-result : goal.overflow_mul-result

@@ -7,7 +7,6 @@ use Rattle.intersection_set.specs.Pool.{Pool, pair_of, nexts_in, lent, pool_of}
 use Rattle.intersection_set.specs.declared.utils.Taken.{Taken}
 use Rattle.intersection_set.proofs.Words.{in_words}
 use Rattle.intersection_set.proofs.Lengths.{slot_lt, take_ok, append_ok, edges_ok, links_ok, head_ok_1, head_ok_2, old_ok, old_ok_2, push_steps}
-use borrow.Author.Rules.{rules}
 use Rattle.intersection_set.proofs.intersection_set.push.Goals as goal
 
 pub alloc-t-requires : goal.alloc-t-requires

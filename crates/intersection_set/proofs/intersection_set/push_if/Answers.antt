@@ -3,7 +3,6 @@ use Rattle.index_edge.specs.Edge.{Edge}
 use Rattle.index_edge.specs.Number.{edge_of}
 use Rattle.intersection_set.specs.Pool.{Pool, lent, pool_of}
 use Rattle.intersection_set.proofs.Pushing.{push_allowed, push_holds, no_push_holds}
-use borrow.Author.Rules.{rules}
 use Rattle.intersection_set.proofs.intersection_set.push_if.Goals as goal
 
 pub push-requires : goal.push-requires

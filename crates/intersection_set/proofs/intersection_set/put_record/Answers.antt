@@ -7,7 +7,6 @@ use mathlib.Core.List.{map}
 use Rattle.intersection_set.specs.Lists.{none}
 use Rattle.intersection_set.specs.Pool.{edges_of, nexts_in, prevs_in}
 use Rattle.intersection_set.proofs.Words.{edges_stored, nexts_stored, prevs_stored, cleared}
-use borrow.Author.Rules.{rules}
 use Rattle.intersection_set.proofs.intersection_set.put_record.Goals as goal
 
 pub returns : goal.returns

@@ -6,7 +6,6 @@ use mathlib.Core.Path.{◌∙◌}
 use Rattle.intersection_set.specs.Pool.{pair_of, edges_of}
 use Rattle.intersection_set.proofs.Words.{in_words}
 use Rattle.intersection_set.proofs.Picking.{pick_in_dense, pick_in_edges, picked_first, picked_second}
-use borrow.Author.Rules.{rules}
 use Rattle.intersection_set.proofs.intersection_set.random.Goals as goal
 
 pub offset_bounds-dense-at : goal.offset_bounds-dense-at

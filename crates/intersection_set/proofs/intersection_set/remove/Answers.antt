@@ -5,7 +5,6 @@ use Rattle.index_edge.specs.Number.{edge_of}
 use Rattle.intersection_set.specs.Pool.{Ends, Pool, pair_of, links_in, nexts_in, lent, pool_of}
 use Rattle.intersection_set.proofs.Words.{in_words, links_read}
 use Rattle.intersection_set.proofs.Lengths.{ReadAt, unlink_ok, unlink_ok_2, remove_steps}
-use borrow.Author.Rules.{rules}
 use Rattle.intersection_set.proofs.intersection_set.remove.Goals as goal
 
 pub edge0_at-e0-requires : goal.edge0_at-e0-requires

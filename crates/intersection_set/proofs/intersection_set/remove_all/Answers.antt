@@ -4,12 +4,10 @@ use mathlib.Core.Logic.{◌≢◌}
 use native.Mathlib.Omega.{arith}
 use borrow.Author.Tests.{eqb-true, eqb-false}
 use lib.ListN.{length}
-use Rattle.algebra.specs.Cases.{not_true, not_false}
 use Rattle.index_edge.specs.Number.{edge_of}
 use Rattle.intersection_set.specs.Lists.{none}
-use Rattle.intersection_set.specs.Pool.{nexts_in, Pool, lent, pool_of, head_at, pool_remove, pool_remove_all}
+use Rattle.intersection_set.specs.Pool.{Pool, lent, pool_of, head_at, pool_remove, pool_remove_all}
 use Rattle.intersection_set.specs.Within.{RemoveOk, Drained}
-use Rattle.intersection_set.proofs.Words.{as_many}
 use Rattle.intersection_set.proofs.Lengths.{SameSize, same_self, same_trans, sizes_remove, live_remove, drained_next, all_none, all_some}
 use Rattle.intersection_set.proofs.Removing.{drained, head_there, removed_holds}
 use Rattle.intersection_set.proofs.intersection_set.remove_all.Goals as goal
@@ -23,8 +21,7 @@ by_edge-newest-requires c =
 pub loop-e-init : goal.loop-e-init
 loop-e-init c =
     let start : Pool = let a = c.args in
-    pool_of (lent a.heads.now a.ends.now a.links.now a.dense.now a.reverse.now a.free.now) a.c in
-    (
+    pool_of (lent a.heads.now a.ends.now a.links.now a.dense.now a.reverse.now a.free.now) a.c in (
       c.by_edge-newest.ensures,
       drained c.args.n (edge_of c.args.e) c.requires.0 start c.requires.1.0 c.requires.1.1,
       refl,

@@ -1,19 +1,10 @@
 -- `remove_all` meets its contract: each turn takes out the newest record that is left, so that what remains to be done gives the same
 -- pool, and fewer records live.
-use Prim.Native.Nat.{ℕ}
-use mathlib.Core.Path.{◌≡◌, refl, sym, ap, ◌∙◌, subst⁻¹}
-use mathlib.Core.Logic.{◌≢◌}
-use native.Mathlib.Omega.{arith}
-use borrow.Author.Tests.{eqb-true, eqb-false}
-use lib.ListN.{length}
-use Rattle.algebra.specs.Cases.{not_true, not_false}
+use mathlib.Core.Path.{◌≡◌}
 use Rattle.index_edge.specs.Number.{edge_of}
-use Rattle.intersection_set.specs.Lists.{none}
-use Rattle.intersection_set.specs.Pool.{nexts_in, Pool, lent, pool_of, head_at, pool_remove, pool_remove_all}
-use Rattle.intersection_set.specs.Within.{RemoveOk, Drained}
-use Rattle.intersection_set.proofs.Words.{as_many}
-use Rattle.intersection_set.proofs.Lengths.{SameSize, same_self, same_trans, sizes_remove, live_remove, drained_next, all_none, all_some}
-use Rattle.intersection_set.proofs.Removing.{drained, head_there, removed_holds}
+use Rattle.intersection_set.specs.Pool.{lent, pool_of, head_at, pool_remove_all}
+use Rattle.intersection_set.specs.Within.{Drained}
+use Rattle.intersection_set.proofs.Lengths.{SameSize}
 use Rattle.intersection_set.proofs.intersection_set.remove_all.Given as goal
 
 abbrev pub invariant-loop-e : goal.invariant-loop-e

@@ -1,7 +1,6 @@
 -- `set_head` meets its contract: its branches are those of `set_head`.
 use mathlib.Core.Path.{sym, ◌∙◌}
 use Rattle.intersection_set.specs.Pool.{set_head}
-use borrow.Author.Rules.{rules}
 use Rattle.intersection_set.proofs.intersection_set.set_head.Goals as goal
 
 pub returns-then-is_none : goal.returns-then-is_none

@@ -8,7 +8,6 @@ use Rattle.index_edge.specs.Number.{edge_of}
 use Rattle.intersection_set.specs.Lists.{none}
 use Rattle.intersection_set.specs.Pool.{pair_of, edges_of, links_in, set_end}
 use Rattle.intersection_set.proofs.Words.{in_words, link_set}
-use borrow.Author.Rules.{rules}
 use Rattle.intersection_set.proofs.intersection_set.set_link.Goals as goal
 
 pub returns-then-is_none : goal.returns-then-is_none

@@ -2,7 +2,6 @@
 use mathlib.Core.Path.{ap}
 use Prim.Native.Nat.{ℕ}
 use lib.ListN.{get_or, set}
-use borrow.Author.Rules.{rules}
 use Rattle.intersection_set.proofs.intersection_set.take_head.Goals as goal
 
 pub returns : goal.returns

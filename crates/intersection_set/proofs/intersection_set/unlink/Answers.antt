@@ -4,7 +4,6 @@ use mathlib.Core.List.{List}
 use Rattle.index_edge.specs.Number.{edge_of}
 use Rattle.intersection_set.specs.Pool.{Ends, edges_of, set_end, unlink_from}
 use Rattle.intersection_set.specs.Within.{EndOk}
-use borrow.Author.Rules.{rules}
 use Rattle.intersection_set.proofs.intersection_set.unlink.Goals as goal
 
 pub set_link-requires-2 : goal.set_link-requires-2

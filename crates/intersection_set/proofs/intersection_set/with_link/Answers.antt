@@ -3,7 +3,6 @@ use mathlib.Core.Path.{subst⁻¹}
 use Prim.Native.Nat.{ℕ}
 use native.Mathlib.Omega.{arith}
 use Rattle.intersection_set.proofs.Words.{Anew, may_anew, is_anew}
-use borrow.Author.Rules.{rules}
 use Rattle.intersection_set.proofs.intersection_set.with_link.Goals as goal
 
 pub nonzero_div-result : goal.nonzero_div-result

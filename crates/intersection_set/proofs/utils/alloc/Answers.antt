@@ -3,7 +3,6 @@ use mathlib.Core.Path.{subst⁻¹}
 use Rattle.intersection_set.specs.Pool.{order}
 use Rattle.intersection_set.specs.Within.{AppendOk}
 use Rattle.intersection_set.specs.declared.utils.Taken.{Taken}
-use borrow.Author.Rules.{rules}
 use Rattle.intersection_set.proofs.utils.alloc.Goals as goal
 
 pub dense_push-requires : goal.dense_push-requires

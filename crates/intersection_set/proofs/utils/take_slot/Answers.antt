@@ -1,7 +1,6 @@
 -- `take_slot` meets its contract: its branches are those of `take_slot`.
 use borrow.Author.Tests.{eq-eqb, ne_eqb}
 use Rattle.intersection_set.specs.Pool.{take_slot}
-use borrow.Author.Rules.{rules}
 use Rattle.intersection_set.proofs.utils.take_slot.Goals as goal
 
 pub returns-then-freed-eq0 : goal.returns-then-freed-eq0

@@ -1,6 +1,5 @@
 -- `job_length` meets its contract: each way out is a line of `Encoding`.
 use Rattle.job.proofs.Encoding.{lengths_differ, many_points, long_job, small_room, job_fits}
-use borrow.Author.Rules.{rules}
 use Rattle.job.proofs.encoder.job_length.Goals as goal
 
 pub returns-then-ny-nx : goal.returns-then-ny-nx

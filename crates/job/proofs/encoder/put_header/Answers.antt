@@ -4,7 +4,6 @@ use native.Mathlib.Omega.{arith}
 use lib.ListN.{length}
 use Rattle.job.proofs.Written.{put_room, put_then}
 use Rattle.job.proofs.Encoding.{word_room, header_is}
-use borrow.Author.Rules.{rules}
 use Rattle.job.proofs.encoder.put_header.Goals as goal
 
 pub put_word-q-requires : goal.put_word-q-requires

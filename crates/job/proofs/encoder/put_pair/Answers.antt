@@ -5,7 +5,6 @@ use mir.ValLaws.{to_z-of_z}
 use Rattle.job.proofs.Written.{put_room, put_then}
 use Rattle.job.specs.Words.{bits_of}
 use Rattle.job.proofs.Encoding.{word_room}
-use borrow.Author.Rules.{rules}
 use Rattle.job.proofs.encoder.put_pair.Goals as goal
 
 pub put_word-requires : goal.put_word-requires

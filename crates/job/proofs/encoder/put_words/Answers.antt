@@ -1,11 +1,9 @@
 use mathlib.Core.Path.{◌≡◌, ap, ◌∙◌}
-use Prim.Native.Nat.{◌-◌, ◌≤◌}
+use Prim.Native.Nat.{◌≤◌}
 use native.Mathlib.Omega.{arith}
 use lib.ListN.{length, take}
 use lib.Seq.{take-length, length-take-le}
-use Rattle.job.specs.Buffers.{Put}
 use Rattle.job.proofs.Written.{put_empty, put_length, put_then}
-use Rattle.job.specs.Words.{bytes_of}
 use Rattle.job.proofs.Encoding.{words_none, words_next, length_bytes}
 use Rattle.job.proofs.encoder.put_words.Goals as goal
 

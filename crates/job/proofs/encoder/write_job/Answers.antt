@@ -6,7 +6,6 @@ use lib.ListN.{length}
 use Rattle.job.proofs.Written.{put_length, put_then}
 use Rattle.job.specs.Encoded.{job_length, pairs}
 use Rattle.job.proofs.Encoding.{Fitting, fitting, length_header, length_bytes, length_pairs, made, not_made}
-use borrow.Author.Rules.{rules}
 use Rattle.job.proofs.encoder.write_job.Goals as goal
 
 pub returns-then-total-eq0 : goal.returns-then-total-eq0

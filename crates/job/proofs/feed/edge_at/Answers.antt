@@ -6,7 +6,6 @@ use Rattle.geometry.proofs.Reading.{here_in_range}
 use Rattle.polygon.specs.Ring.{at}
 use Rattle.job.specs.Feed.{edge_feed, feed_between}
 use Rattle.job.proofs.Feeds.{feed_by, feed_small}
-use borrow.Author.Rules.{rules}
 use Rattle.job.proofs.feed.edge_at.Goals as goal
 
 pub overflow_cast-ring : goal.overflow_cast-ring

@@ -1,11 +1,9 @@
 -- `feed` meets its contract. The invariant: the sum of the first i edges, each below 2,828,427,125.
-use mathlib.Core.Path.{◌≡◌, sym, ap, ◌∙◌}
+use mathlib.Core.Path.{◌≡◌}
 use Prim.Native.Nat.{◌-◌, ◌*◌, ◌≤◌}
-use native.Mathlib.Omega.{arith}
 use lib.ListN.{length}
 use Rattle.geometry.specs.Lent.{points}
 use Rattle.job.specs.Feed.{feed_to}
-use Rattle.job.proofs.Feeds.{feed_none, feed_step}
 use Rattle.job.proofs.feed.feed.Given as goal
 
 abbrev pub invariant-loop-i : goal.invariant-loop-i

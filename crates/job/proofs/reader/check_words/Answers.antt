@@ -1,6 +1,5 @@
 -- `check_words` meets its contract: each way out is a line of `Refusals`.
 use mathlib.Core.Path.{refl, sym, ◌∙◌}
-use borrow.Author.Rules.{rules}
 use Rattle.job.proofs.Refusals.{other_total, too_many, points_outside, picks_outside, areas_share, x_short, y_short, picks_short, no_refusal}
 use Rattle.job.proofs.reader.check_words.Goals as goal
 

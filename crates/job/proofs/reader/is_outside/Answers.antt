@@ -1,5 +1,4 @@
 -- `is_outside` meets its contract: the two tests are those of `outside`.
-use borrow.Author.Rules.{rules}
 use borrow.Author.Tests.{lt-ltb, le-ltb}
 use Rattle.job.specs.Job.{outside}
 use Rattle.job.proofs.reader.is_outside.Goals as goal

@@ -5,7 +5,6 @@ use lib.ListN.{length}
 use Rattle.job.specs.Words.{word}
 use Rattle.job.specs.Job.{in_range, refusal as refusalOf}
 use Rattle.job.proofs.Refusals.{Accepted, accepted_job, refused_reading, accepted_reading}
-use borrow.Author.Rules.{rules}
 use Rattle.job.proofs.reader.read_job.Goals as goal
 
 pub returns-then-k-ne0 : goal.returns-then-k-ne0

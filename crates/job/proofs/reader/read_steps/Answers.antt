@@ -1,15 +1,11 @@
-use mathlib.Core.Path.{◌≡◌, refl, sym, ap, ◌∙◌}
-use mathlib.Core.List.{List}
-use Prim.Native.Nat.{ℕ, ◌+◌, ◌*◌, ◌-◌, ◌≤◌, ◌<◌}
+use mathlib.Core.Path.{refl, sym, ap, ◌∙◌}
+use Prim.Native.Nat.{◌<◌}
 use native.Mathlib.Omega.{arith}
 use lib.ListN.{length, length-set}
-use lib.IntN.{ℤ}
 use mir.Syntax.{w32}
 use mir.ValLaws.{to_z-of_z}
-use borrow.Author.Rules.{rules}
-use Rattle.job.specs.Words.{word, signed}
+use Rattle.job.specs.Words.{signed}
 use Rattle.job.specs.Steps.{steps}
-use Rattle.job.specs.Buffers.{over}
 use Rattle.job.proofs.Written.{over_none, over_step, over_all}
 use Rattle.job.proofs.reader.read_steps.Invariants.{f}
 use Rattle.job.proofs.reader.read_steps.Goals as goal

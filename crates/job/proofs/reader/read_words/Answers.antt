@@ -1,10 +1,7 @@
-use mathlib.Core.Path.{◌≡◌, refl, sym, ◌∙◌}
-use mathlib.Core.List.{List}
-use Prim.Native.Nat.{ℕ, ◌+◌, ◌*◌, ◌-◌, ◌≤◌, ◌<◌}
+use mathlib.Core.Path.{refl, sym, ◌∙◌}
+use Prim.Native.Nat.{◌<◌}
 use native.Mathlib.Omega.{arith}
 use lib.ListN.{length, length-set}
-use Rattle.job.specs.Words.{word}
-use Rattle.job.specs.Buffers.{over}
 use Rattle.job.proofs.Written.{over_none, over_step, over_all}
 use Rattle.job.proofs.reader.read_words.Invariants.{f}
 use Rattle.job.proofs.reader.read_words.Goals as goal

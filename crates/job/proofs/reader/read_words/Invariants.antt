@@ -1,12 +1,10 @@
 -- `read_words` meets its contract. The invariant: the first i places of picks are written over.
-use mathlib.Core.Path.{◌≡◌, refl, sym, ◌∙◌}
+use mathlib.Core.Path.{◌≡◌}
 use mathlib.Core.List.{List}
-use Prim.Native.Nat.{ℕ, ◌+◌, ◌*◌, ◌-◌, ◌≤◌, ◌<◌}
-use native.Mathlib.Omega.{arith}
-use lib.ListN.{length, length-set}
+use Prim.Native.Nat.{ℕ, ◌+◌, ◌*◌, ◌-◌, ◌≤◌}
+use lib.ListN.{length}
 use Rattle.job.specs.Words.{word}
 use Rattle.job.specs.Buffers.{over}
-use Rattle.job.proofs.Written.{over_none, over_step, over_all}
 use Rattle.job.proofs.reader.read_words.Given as goal
 
 abbrev pub f : List ℕ → ℕ → ℕ → ℕ

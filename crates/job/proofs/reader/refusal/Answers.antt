@@ -1,6 +1,5 @@
 -- `refusal` meets its contract: the words are those of the job, and no job meets check 3, since its bytes are below 256.
 use native.Mathlib.Omega.{arith}
-use borrow.Author.Rules.{rules}
 use Rattle.job.specs.Job.{refusal as refusalOf}
 use Rattle.job.proofs.Refusals.{too_short, too_long, of_words}
 use Rattle.job.proofs.TwosComplement.{Bytes}

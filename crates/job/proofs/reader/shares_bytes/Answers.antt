@@ -1,7 +1,6 @@
 -- `shares_bytes` meets its contract: each way out is a line of `Areas`.
 use mathlib.Core.Path.{sym}
 use native.Mathlib.Omega.{arith}
-use borrow.Author.Rules.{rules}
 use Rattle.job.proofs.Areas.{empty_first, ends_before, starts_after, unless_empty}
 use Rattle.job.proofs.reader.shares_bytes.Goals as goal
 

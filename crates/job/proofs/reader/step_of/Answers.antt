@@ -1,6 +1,5 @@
 -- `step_of` meets its contract: the two ways are those of `Rounding`.
 use native.Mathlib.Omega.{arith}
-use borrow.Author.Rules.{rules}
 use Rattle.job.proofs.Rounding.{step_low, step_high}
 use Rattle.job.proofs.TwosComplement.{less_fits}
 use Rattle.job.proofs.reader.step_of.Goals as goal

@@ -8,14 +8,10 @@ use lib.ListN.{length}
 use mir.Syntax.{w32}
 use mir.Val.{to_z, of_z}
 use mir.ValLaws.{to_z-of_z}
-use borrow.Author.Rules.{rules}
 use Rattle.job.proofs.report.put_point.Goals as goal
 
 pub put_integer-p-requires : goal.put_integer-p-requires
 put_integer-p-requires c = omega (arith, length_integer (to_z w32 (of_z w32 c.args.x)))
-
--- LOST slice-aggregate-put-text : tie.Need-slice-aggregate-put-text
--- LOST slice-aggregate-put-text c = search rules
 
 pub put_text-q-requires : goal.put_text-q-requires
 put_text-q-requires c =
@@ -27,9 +23,6 @@ put_integer-r-requires c =
     let room : c.put_integer-p.result + 23 ≤ length c.put_integer-p.new.out = put_room 21 23 c.put_integer-p.ensures (length_integer _) c.requires in
     let room2 : c.put_text-q.result + 22 ≤ length c.put_text-q.new.out = put_room 1 22 c.put_text-q.ensures (omega arith) room in
     omega (arith, room2, length_integer (to_z w32 (of_z w32 c.args.y)))
-
--- LOST slice-aggregate-put-text-2 : tie.Need-slice-aggregate-put-text-2
--- LOST slice-aggregate-put-text-2 c = search rules
 
 pub put_text-requires : goal.put_text-requires
 put_text-requires c =

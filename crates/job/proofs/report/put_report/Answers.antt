@@ -2,7 +2,6 @@
 use Prim.Native.Nat.{◌+◌, ◌*◌, ◌≤◌}
 use native.Mathlib.Omega.{arith}
 use lib.ListN.{length, length-append}
-use borrow.Author.Rules.{rules}
 use Rattle.geometry.specs.Lent.{points}
 use Rattle.job.specs.Text.{loop_lines, report_text}
 use Rattle.job.proofs.Written.{put_room, put_then, put_within}
@@ -20,19 +19,22 @@ unfolding report_text loop_lines
 returns-in-Delivered c =
     let a = c.args in
     let n = length a.ring.now in
-    let t = put_then c.put_summary-p.ensures c.put_points.ensures in record { put = rw (c.in-Delivered.is, ← c.feed-sum.ensures) t; within = put_within t
+    let t = put_then c.put_summary-p.ensures c.put_points.ensures in record {
+      put = rw (c.in-Delivered.is, ← c.feed-sum.ensures) t;
+      within = put_within t
           (rw length-append
           (omega (
             arith,
             c.requires.1,
             length_summary n c.in-Delivered.moves c.in-Delivered.cross c.feed-sum.result,
             length_lines (points a.x.now a.y.now) a.ring.now n,
-          ))); }
+          )));
+    }
 
 pub returns-in-Stopped : goal.returns-in-Stopped
 unfolding report_text
-returns-in-Stopped c = let t = c.put_stopped.ensures in record { put = rw c.in-Stopped.is t; within = put_within t (omega (arith, c.requires.1, length_stopped c.in-Stopped.left)); }
+returns-in-Stopped c = let t = c.put_stopped.ensures in record { put = rw c.in-Stopped.is t; within = put_within t (omega (arith, c.requires.1, length_stopped c.in-Stopped.left)) }
 
 pub returns-in-Refused : goal.returns-in-Refused
 unfolding report_text
-returns-in-Refused c = let t = c.put_refused.ensures in record { put = rw c.in-Refused.is t; within = put_within t (omega (arith, c.requires.1, length_refused c.in-Refused.k)); }
+returns-in-Refused c = let t = c.put_refused.ensures in record { put = rw c.in-Refused.is t; within = put_within t (omega (arith, c.requires.1, length_refused c.in-Refused.k)) }

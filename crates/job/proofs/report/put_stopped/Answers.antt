@@ -3,14 +3,7 @@ use Rattle.job.proofs.Written.{put_room, put_then}
 use Rattle.job.proofs.Decimals.{field_room}
 use Rattle.job.specs.Ascii.{ascii}
 use Rattle.job.specs.Text.{stopped_line}
-use borrow.Author.Rules.{rules}
 use Rattle.job.proofs.report.put_stopped.Goals as goal
-
--- LOST slice-aggregate-put-field : tie.Need-slice-aggregate-put-field
--- LOST slice-aggregate-put-field c = search rules
-
--- LOST slice-aggregate-put-text : tie.Need-slice-aggregate-put-text
--- LOST slice-aggregate-put-text c = search rules
 
 pub put_text-requires : goal.put_text-requires
 put_text-requires c = put_room 35 1 c.put_field-p.ensures (field_room (ascii "refused 8 left ") c.args.left) c.requires

@@ -6,22 +6,12 @@ use Rattle.job.specs.Text.{summary}
 use Prim.Native.Nat.{◌+◌, ◌≤◌}
 use lib.ListN.{length}
 use Rattle.job.specs.Ascii.{ascii}
-use borrow.Author.Rules.{rules}
 use Rattle.job.proofs.report.put_summary.Goals as goal
-
--- LOST slice-aggregate-put-field : tie.Need-slice-aggregate-put-field
--- LOST slice-aggregate-put-field c = search rules
-
--- LOST slice-aggregate-put-field-2 : tie.Need-slice-aggregate-put-field-2
--- LOST slice-aggregate-put-field-2 c = search rules
 
 pub put_field-q-requires : goal.put_field-q-requires
 put_field-q-requires c =
     let room : c.put_field-p.result + 81 ≤ length c.put_field-p.new.out = put_room 23 81 c.put_field-p.ensures (field_room (ascii "ok ") c.args.n) c.requires in
     omega (arith, room)
-
--- LOST slice-aggregate-put-field-3 : tie.Need-slice-aggregate-put-field-3
--- LOST slice-aggregate-put-field-3 c = search rules
 
 pub put_field-r-requires : goal.put_field-r-requires
 put_field-r-requires c =
@@ -29,18 +19,12 @@ put_field-r-requires c =
     let room2 : c.put_field-q.result + 54 ≤ length c.put_field-q.new.out = put_room 27 54 c.put_field-q.ensures (field_room (ascii " moves ") c.args.moves) room in
     omega (arith, room2)
 
--- LOST slice-aggregate-put-field-4 : tie.Need-slice-aggregate-put-field-4
--- LOST slice-aggregate-put-field-4 c = search rules
-
 pub put_field-s-requires : goal.put_field-s-requires
 put_field-s-requires c =
     let room : c.put_field-p.result + 81 ≤ length c.put_field-p.new.out = put_room 23 81 c.put_field-p.ensures (field_room (ascii "ok ") c.args.n) c.requires in
     let room2 : c.put_field-q.result + 54 ≤ length c.put_field-q.new.out = put_room 27 54 c.put_field-q.ensures (field_room (ascii " moves ") c.args.moves) room in
     let room3 : c.put_field-r.result + 27 ≤ length c.put_field-r.new.out = put_room 27 27 c.put_field-r.ensures (field_room (ascii " cross ") c.args.cross) room2 in
     omega (arith, room3)
-
--- LOST slice-aggregate-put-text : tie.Need-slice-aggregate-put-text
--- LOST slice-aggregate-put-text c = search rules
 
 pub put_text-requires : goal.put_text-requires
 put_text-requires c =

@@ -2,7 +2,6 @@
 use native.Mathlib.Omega.{arith}
 use Rattle.job.proofs.Written.{put_then}
 use Rattle.job.proofs.Decimals.{length_decimal}
-use borrow.Author.Rules.{rules}
 use Rattle.job.proofs.text.put_field.Goals as goal
 
 pub put_natural-requires : goal.put_natural-requires

@@ -1,5 +1,5 @@
 -- `put_integer` meets its contract: by the sign, the digits of the size with or without a minus before them.
-use mathlib.Core.Path.{◌≡◌, refl, ap, ◌∙◌}
+use mathlib.Core.Path.{◌≡◌, refl, ap}
 use mathlib.Core.List.{◌∷◌}
 use Prim.Native.Nat.{ℕ}
 use native.Mathlib.Omega.{arith}
@@ -11,7 +11,6 @@ use mir.ValLaws.{to_z-of_z}
 use Rattle.job.specs.Decimal.{integer, decimal}
 use Rattle.job.proofs.Written.{put_byte, put_then}
 use Rattle.job.proofs.Decimals.{integer_below, integer_above}
-use borrow.Author.Rules.{rules}
 use Rattle.job.proofs.text.put_integer.Goals as goal
 
 pub bounds-out-at : goal.bounds-out-at

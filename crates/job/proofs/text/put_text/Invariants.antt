@@ -1,11 +1,8 @@
 -- `put_text` meets its contract. The invariant: the first i bytes of the text are written.
-use mathlib.Core.Path.{◌≡◌, refl, sym, ap, ◌∙◌}
+use mathlib.Core.Path.{◌≡◌}
 use Prim.Native.Nat.{◌-◌, ◌≤◌}
-use native.Mathlib.Omega.{arith}
-use lib.ListN.{length, take, length-set}
-use lib.Seq.{take-length}
+use lib.ListN.{length, take}
 use Rattle.job.specs.Buffers.{put}
-use Rattle.job.proofs.Written.{put_none, put_next}
 use Rattle.job.proofs.text.put_text.Given as goal
 
 abbrev pub invariant-loop-i : goal.invariant-loop-i

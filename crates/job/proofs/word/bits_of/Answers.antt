@@ -6,7 +6,6 @@ use mir.Syntax.{w32}
 use mir.ValLaws.{to_z-of_z}
 use Rattle.job.specs.Words.{bits_of}
 use Rattle.job.proofs.TwosComplement.{bits_below, bits_above}
-use borrow.Author.Rules.{rules}
 use Rattle.job.proofs.word.bits_of.Goals as goal
 
 pub overflow_sub-result : goal.overflow_sub-result

@@ -1,7 +1,6 @@
 -- `byte_at` meets its contract: a byte is below 256.
 use mathlib.Core.Path.{refl}
 use native.Mathlib.Omega.{arith}
-use borrow.Author.Rules.{rules}
 use Rattle.job.proofs.word.byte_at.Goals as goal
 
 pub overflow_cast-result : goal.overflow_cast-result

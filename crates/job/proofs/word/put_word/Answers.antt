@@ -2,7 +2,6 @@
 use native.Mathlib.Omega.{arith}
 use lib.ListN.{length-set}
 use Rattle.job.proofs.Encoding.{put_word4}
-use borrow.Author.Rules.{rules}
 use Rattle.job.proofs.word.put_word.Goals as goal
 
 pub bounds-out-at-2 : goal.bounds-out-at-2

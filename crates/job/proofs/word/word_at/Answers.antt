@@ -1,6 +1,5 @@
 -- `word_at` meets its contract: four bytes make a number below 2³².
 use native.Mathlib.Omega.{arith}
-use borrow.Author.Rules.{rules}
 use Rattle.job.specs.Words.{word}
 use Rattle.job.proofs.word.word_at.Goals as goal
 

@@ -1,6 +1,5 @@
 -- `distance` meets its contract: the two arms are the cases of `dist`.
 use native.Mathlib.Omega.{arith}
-use borrow.Author.Rules.{rules}
 use Rattle.algebra.specs.Cases.{both}
 use Rattle.polygon.proofs.Positions.{dist_cases}
 use Rattle.moves.proofs.extremes.distance.Goals as goal

@@ -1,5 +1,4 @@
 -- `linear_extremes` meets its contract: its corners are those of the run.
-use borrow.Author.Rules.{rules}
 use Rattle.geometry.specs.Lent.{points}
 use Rattle.polygon.proofs.Positions.{next_lt}
 use Rattle.moves.proofs.RingPositions.{over_at}

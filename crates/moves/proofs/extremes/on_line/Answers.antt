@@ -1,6 +1,5 @@
 -- `on_line` meets its contract: a turn is read as 0 exactly where it is 0.
 use mathlib.Core.Path.{◌∙◌, ap}
-use borrow.Author.Rules.{rules}
 use Rattle.geometry.specs.Plane.{is_zero}
 use Rattle.geometry.proofs.Reading.{zero_bits}
 use Rattle.moves.proofs.extremes.on_line.Goals as goal

@@ -1,13 +1,10 @@
 use native.Mathlib.Omega.{arith}
 use mathlib.Core.Path.{refl, sym, ◌∙◌}
-use Rattle.algebra.specs.Cases.{not_true, not_false}
-use Rattle.geometry.specs.Lent.{spot, points}
-use Rattle.polygon.specs.Ring.{prev}
+use Rattle.geometry.specs.Lent.{points}
 use Rattle.polygon.proofs.Positions.{prev_lt}
-use Rattle.machine.specs.Search.{run_on}
 use Rattle.moves.proofs.RingPositions.{over_at}
-use Rattle.moves.proofs.RingWalk.{Walk, walk_within}
-use Rattle.moves.proofs.Carried.{Carried, way_on, carried_first, step_over, three_in_range, carried_on}
+use Rattle.moves.proofs.RingWalk.{walk_within}
+use Rattle.moves.proofs.Carried.{way_on, carried_first, step_over, three_in_range, carried_on}
 use Rattle.moves.proofs.RunSteps.{on_steps, straight_on, run_stops, run_goes, run_ends}
 use Rattle.moves.proofs.extremes.run_on.Goals as goal
 

@@ -1,5 +1,4 @@
 -- `hoist` meets its contract: on a board the search for two edges that meet on one line is never none.
-use borrow.Author.Rules.{rules}
 use Rattle.geometry.specs.Lent.{points}
 use Rattle.moves.proofs.KinkSearch.{never_nothing}
 use Rattle.moves.proofs.PlanParts.{plan_hoist}

@@ -1,6 +1,5 @@
 -- `move_at` meets its contract: the test for one line is that of `plan_at`.
 use mathlib.Core.Path.{sym, ◌∙◌}
-use borrow.Author.Rules.{rules}
 use Rattle.geometry.specs.Lent.{points}
 use Rattle.moves.proofs.PlanParts.{plan_uncross, folded}
 use Rattle.moves.proofs.plan.move_at.Goals as goal

@@ -1,7 +1,6 @@
 -- `parallel_edges` meets its contract: its four numbers are those of the edges' ends, and a turn is read as 0 exactly where it is 0.
 use mathlib.Core.Bool.{◌&&◌}
 use mathlib.Core.Path.{◌∙◌, ap, ap₂}
-use borrow.Author.Rules.{rules}
 use Rattle.geometry.specs.Plane.{collinear, is_zero}
 use Rattle.geometry.specs.Lent.{points}
 use Rattle.geometry.proofs.Reading.{zero_bits}

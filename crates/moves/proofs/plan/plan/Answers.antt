@@ -2,7 +2,6 @@
 use native.Mathlib.Omega.{arith}
 use mathlib.Core.Path.{refl, ◌∙◌}
 use lib.ListN.{length}
-use borrow.Author.Rules.{rules}
 use Rattle.geometry.specs.Lent.{points}
 use Rattle.machine.specs.Search.{plan_at}
 use Rattle.moves.proofs.PlanParts.{edge_below, starts_within, starts_met}

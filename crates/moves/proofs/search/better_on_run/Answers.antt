@@ -1,5 +1,5 @@
 use native.Mathlib.Omega.{arith}
-use Prim.Native.Nat.{◌+◌, ◌-◌, ◌≤◌}
+use Prim.Native.Nat.{◌+◌, ◌≤◌}
 use mathlib.Core.Path.{◌≡◌, refl, sym, ◌∙◌, ap}
 use Rattle.geometry.specs.Plane.{lt_point}
 use Rattle.geometry.specs.Lent.{points}
@@ -7,7 +7,6 @@ use Rattle.geometry.proofs.Reading.{read_given}
 use Rattle.polygon.proofs.Positions.{next_lt}
 use Rattle.machine.specs.Board.{pt_at}
 use Rattle.moves.specs.Best.{better, looking}
-use Rattle.moves.specs.Beside.{Starts}
 use Rattle.moves.specs.Runs.{edges_of}
 use Rattle.moves.proofs.RingPositions.{at_id}
 use Rattle.moves.proofs.Carried.{in_ring}

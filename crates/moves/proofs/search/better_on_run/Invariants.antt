@@ -1,18 +1,9 @@
 -- `better_on_run` meets its contract. The loop's invariant: the search on from here comes to the same pair, and `below` tells of the edge's start.
-use native.Mathlib.Omega.{arith}
-use Prim.Native.Nat.{◌+◌, ◌-◌, ◌≤◌}
-use mathlib.Core.Path.{◌≡◌, refl, sym, ◌∙◌, ap}
-use Rattle.geometry.specs.Plane.{lt_point}
+use Prim.Native.Nat.{◌-◌}
+use mathlib.Core.Path.{◌≡◌}
 use Rattle.geometry.specs.Lent.{points}
-use Rattle.geometry.proofs.Reading.{read_given}
-use Rattle.polygon.proofs.Positions.{next_lt}
-use Rattle.machine.specs.Board.{pt_at}
-use Rattle.moves.specs.Best.{better, looking}
+use Rattle.moves.specs.Best.{looking}
 use Rattle.moves.specs.Beside.{Starts}
-use Rattle.moves.specs.Runs.{edges_of}
-use Rattle.moves.proofs.RingPositions.{at_id}
-use Rattle.moves.proofs.Carried.{in_ring}
-use Rattle.moves.proofs.KinkSearch.{below_least, whole_run, pair_here, pair_goes, pair_ends}
 use Rattle.moves.proofs.search.better_on_run.Given as goal
 
 abbrev pub invariant-loop-edge : goal.invariant-loop-edge

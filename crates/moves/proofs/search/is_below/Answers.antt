@@ -1,6 +1,5 @@
 -- `is_below` meets its contract: the keys order as the points do.
 use mathlib.Core.Path.{refl, ◌∙◌, ap₂}
-use borrow.Author.Rules.{rules}
 use lib.Signed.{lt_z}
 use Rattle.geometry.specs.Lent.{points}
 use Rattle.geometry.proofs.Reading.{read_64, read_given}

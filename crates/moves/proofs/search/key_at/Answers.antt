@@ -1,6 +1,5 @@
 -- `key_at` meets its contract: points of the ring are within the limits.
 use mathlib.Core.Path.{◌∙◌, ap}
-use borrow.Author.Rules.{rules}
 use Rattle.geometry.specs.Lent.{order_key}
 use Rattle.geometry.proofs.Reading.{read_64}
 use Rattle.moves.proofs.Carried.{in_ring}

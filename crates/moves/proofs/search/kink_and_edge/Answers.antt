@@ -1,7 +1,6 @@
 -- `kink_and_edge` meets its contract: the two runs are those of the edges, and one run where the second edge lies on the first one's.
 use mathlib.Core.Path.{◌∙◌, ap, subst, subst⁻¹}
 use Prim.Native.Nat.{◌<◌}
-use borrow.Author.Rules.{rules}
 use Rattle.geometry.specs.Lent.{points}
 use Rattle.polygon.specs.Ring.{dist}
 use Rattle.machine.proofs.Corners.{has_corner}

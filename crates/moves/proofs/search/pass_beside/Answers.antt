@@ -1,5 +1,5 @@
 use native.Mathlib.Omega.{arith}
-use Prim.Native.Nat.{ℕ, ◌+◌, ◌-◌, ◌≤◌}
+use Prim.Native.Nat.{◌+◌}
 use mathlib.Core.Path.{◌≡◌, refl, sym, ◌∙◌, ap}
 use Rattle.geometry.specs.Plane.{lt_point}
 use Rattle.geometry.specs.Lent.{points}
@@ -8,8 +8,6 @@ use Rattle.polygon.specs.Ring.{next}
 use Rattle.polygon.proofs.Positions.{next_lt}
 use Rattle.machine.specs.Board.{pt_at}
 use Rattle.moves.specs.Best.{looking}
-use Rattle.moves.specs.Beside.{Starts}
-use Rattle.moves.specs.declared.search.Best.{Best}
 use Rattle.moves.proofs.RingPositions.{at_id, over_at}
 use Rattle.moves.proofs.Carried.{in_ring}
 use Rattle.moves.proofs.KinkSearch.{other_side, same_side_lem, one_side, pair_goes}

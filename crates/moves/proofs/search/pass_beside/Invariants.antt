@@ -1,19 +1,10 @@
 -- `pass_beside` meets its contract. The loop's invariant: every edge passed has both ends on the side that `below` tells, so that the search on from here comes to the same pair.
-use native.Mathlib.Omega.{arith}
-use Prim.Native.Nat.{ℕ, ◌+◌, ◌-◌, ◌≤◌}
-use mathlib.Core.Path.{◌≡◌, refl, sym, ◌∙◌, ap}
-use Rattle.geometry.specs.Plane.{lt_point}
+use Prim.Native.Nat.{ℕ, ◌-◌, ◌≤◌}
+use mathlib.Core.Path.{◌≡◌}
 use Rattle.geometry.specs.Lent.{points}
-use Rattle.geometry.proofs.Reading.{read_given}
-use Rattle.polygon.specs.Ring.{next}
-use Rattle.polygon.proofs.Positions.{next_lt}
-use Rattle.machine.specs.Board.{pt_at}
 use Rattle.moves.specs.Best.{looking}
 use Rattle.moves.specs.Beside.{Starts}
 use Rattle.moves.specs.declared.search.Best.{Best}
-use Rattle.moves.proofs.RingPositions.{at_id, over_at}
-use Rattle.moves.proofs.Carried.{in_ring}
-use Rattle.moves.proofs.KinkSearch.{other_side, same_side_lem, one_side, pair_goes}
 use Rattle.moves.proofs.search.pass_beside.Given as goal
 
 abbrev pub invariant-loop-passed : goal.invariant-loop-passed

@@ -1,5 +1,4 @@
 -- `search_run` meets its contract: beside a run with no edges there are only its own.
-use borrow.Author.Rules.{rules}
 use Rattle.geometry.specs.Lent.{points}
 use Rattle.moves.proofs.KinkSearch.{one_run}
 use Rattle.moves.proofs.search.search_run.Goals as goal

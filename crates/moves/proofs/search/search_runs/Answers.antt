@@ -1,6 +1,5 @@
 -- `search_runs` meets its contract: the points of the second run come after those of the first.
 use mathlib.Core.Path.{◌≡◌, subst}
-use borrow.Author.Rules.{rules}
 use Rattle.geometry.specs.Lent.{points}
 use Rattle.moves.specs.Runs.{points_of, run_edges}
 use Rattle.moves.specs.Best.{over_kinks}

@@ -1,6 +1,5 @@
 -- `with_kink` meets its contract: the edges of the second run come after those of the first.
 use native.Mathlib.Omega.{arith}
-use borrow.Author.Rules.{rules}
 use Rattle.geometry.specs.Lent.{points}
 use Rattle.geometry.proofs.Reading.{read_64}
 use Rattle.moves.proofs.KinkSearch.{of_both, of_first}

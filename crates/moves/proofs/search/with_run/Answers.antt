@@ -1,16 +1,14 @@
 use native.Mathlib.Omega.{arith}
 use mathlib.Core.Path.{◌≡◌, refl, sym, ◌∙◌, ap}
 use mathlib.Core.Bool.{not}
-use Rattle.algebra.specs.Cases.{both}
-use Rattle.geometry.specs.Lent.{spot, points}
-use Rattle.polygon.specs.Ring.{prev, stretch}
+use Rattle.geometry.specs.Lent.{points}
 use Rattle.polygon.proofs.Positions.{prev_lt}
 use Rattle.machine.specs.Board.{kink_at}
 use Rattle.moves.specs.Runs.{run_edges}
-use Rattle.moves.specs.Best.{better, with_kink, over_kinks}
+use Rattle.moves.specs.Best.{better, with_kink}
 use Rattle.moves.proofs.RingPositions.{over_at}
-use Rattle.moves.proofs.RingWalk.{Walk, walk_within, walk_runs, walk_sized}
-use Rattle.moves.proofs.Carried.{Carried, way_on, carried_first, step_over, three_in_range, carried_on}
+use Rattle.moves.proofs.RingWalk.{walk_within, walk_runs, walk_sized}
+use Rattle.moves.proofs.Carried.{way_on, carried_first, step_over, three_in_range, carried_on}
 use Rattle.moves.proofs.KinkSearch.{best_stays, best_moves, kink_is, all_points, kink_goes, kinks_stop, kinks_end}
 use Rattle.moves.proofs.search.with_run.Goals as goal
 use Rattle.moves.proofs.search.with_run.Goals.{then-not-is_inside, else-not-is_inside}
@@ -58,7 +56,7 @@ loop-left-preserved c =
     let k = c.loop-left.at.id.0 in
     let b = c.loop-left.best in
     elim c.if-not-is_inside.branch [
-      then-not-is_inside w ↦ w.best-is ∙ best_moves n pt s.ring.now (run_edges n s.a s.b) k b (sym kink_here ∙ ap not w.if-not-is_inside.true) (walk_sized c.loop-left.invariant.0 (λ m. w.with_kink-best.result ≡ better m pt s.ring.now k 0 (run_edges m s.a s.b) b) w.with_kink-best.ensures)
+      | then-not-is_inside w ↦ w.best-is ∙ best_moves n pt s.ring.now (run_edges n s.a s.b) k b (sym kink_here ∙ ap not w.if-not-is_inside.true) (walk_sized c.loop-left.invariant.0 (λ m. w.with_kink-best.result ≡ better m pt s.ring.now k 0 (run_edges m s.a s.b) b) w.with_kink-best.ensures)
       | else-not-is_inside w ↦ w.best-is ∙ best_stays n pt s.ring.now (run_edges n s.a s.b) k b (sym kink_here ∙ ap not w.if-not-is_inside.false)
     ] in
     let s = c.args in (

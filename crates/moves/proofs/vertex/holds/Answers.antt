@@ -1,6 +1,5 @@
 -- `holds` meets its contract: its numbers are those of the edge's ends and of the point.
 use mathlib.Core.Path.{◌∙◌}
-use borrow.Author.Rules.{rules}
 use Rattle.geometry.specs.Segment.{inside}
 use Rattle.geometry.specs.Lent.{points}
 use Rattle.polygon.proofs.Positions.{next_lt}

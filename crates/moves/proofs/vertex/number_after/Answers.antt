@@ -1,6 +1,5 @@
 -- `number_after` meets its contract: the cursor walks exactly the ring, and the number that it reads is handed on.
 use mathlib.Core.Path.{sym}
-use borrow.Author.Rules.{rules}
 use Rattle.moves.proofs.vertex.number_after.Goals as goal
 
 pub point_after-requires : goal.point_after-requires

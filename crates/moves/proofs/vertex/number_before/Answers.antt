@@ -1,6 +1,5 @@
 -- `number_before` meets its contract: the position one place back is one of the same ring.
 use mathlib.Core.Path.{◌∙◌, ap}
-use borrow.Author.Rules.{rules}
 use Rattle.polygon.specs.Ring.{at}
 use Rattle.polygon.proofs.Positions.{prev_lt}
 use Rattle.moves.proofs.RingPositions.{at_id, ring_at}

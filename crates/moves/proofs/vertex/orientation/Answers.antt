@@ -1,6 +1,5 @@
 -- `orientation` meets its contract: its three numbers are those at the position and beside it.
 use mathlib.Core.Path.{◌∙◌}
-use borrow.Author.Rules.{rules}
 use Rattle.geometry.specs.Plane.{turn}
 use Rattle.geometry.specs.Lent.{points}
 use Rattle.geometry.proofs.Reading.{read_64}

@@ -1,6 +1,5 @@
 -- `point_of` meets its contract: its number is that of the point at the position.
 use mathlib.Core.Path.{◌∙◌, ap}
-use borrow.Author.Rules.{rules}
 use Rattle.geometry.specs.Lent.{points}
 use Rattle.moves.proofs.RingPositions.{stands}
 use Rattle.moves.proofs.vertex.point_of.Goals as goal

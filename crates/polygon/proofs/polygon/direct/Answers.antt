@@ -1,5 +1,4 @@
 -- `direct` meets its contract: the index says where the two points stand, and the test is that of the definition.
-use borrow.Author.Rules.{rules}
 use mathlib.Core.Path.{sym, ◌∙◌, ap}
 use Rattle.index_edge.specs.Number.{edge_of}
 use Rattle.polygon.specs.declared.position.Position.{Position}

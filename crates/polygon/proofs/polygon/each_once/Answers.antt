@@ -1,6 +1,5 @@
 -- `each_once` meets its contract: it tells whether no fault is found.
 use mathlib.Core.Path.{refl, sym, ap, ◌∙◌}
-use borrow.Author.Rules.{rules}
 use lib.ListN.{length}
 use Rattle.polygon.specs.Ring.{is_none}
 use Rattle.polygon.specs.Place.{fault_of}

@@ -1,9 +1,8 @@
 use mathlib.Core.Path.{◌≡◌, refl, ◌∙◌}
 use mathlib.Core.Bool.{true}
-use Prim.Native.Nat.{◌-◌, ◌≤◌}
 use native.Mathlib.Omega.{arith}
 use lib.ListN.{length, get_or, length-set}
-use Rattle.polygon.proofs.FirstFault.{Passed, passed_none, passed_more, passed_all, too_large, seen_before}
+use Rattle.polygon.proofs.FirstFault.{passed_none, passed_more, passed_all, too_large, seen_before}
 use Rattle.polygon.proofs.polygon.first_fault.Goals as goal
 
 pub loop-i-init : goal.loop-i-init

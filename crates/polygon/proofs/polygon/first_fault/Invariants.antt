@@ -1,10 +1,8 @@
 -- `first_fault` meets its contract: what is passed is right and marked, so that an entry is at fault where it is too large or its mark is set.
-use mathlib.Core.Path.{◌≡◌, refl, ◌∙◌}
-use mathlib.Core.Bool.{true}
+use mathlib.Core.Path.{◌≡◌}
 use Prim.Native.Nat.{◌-◌, ◌≤◌}
-use native.Mathlib.Omega.{arith}
-use lib.ListN.{length, get_or, length-set}
-use Rattle.polygon.proofs.FirstFault.{Passed, passed_none, passed_more, passed_all, too_large, seen_before}
+use lib.ListN.{length}
+use Rattle.polygon.proofs.FirstFault.{Passed}
 use Rattle.polygon.proofs.polygon.first_fault.Given as goal
 
 abbrev pub invariant-loop-i : goal.invariant-loop-i

@@ -1,8 +1,6 @@
-use Prim.Native.Nat.{◌-◌, ◌≤◌}
 use native.Mathlib.Omega.{arith}
-use mathlib.Core.Path.{◌≡◌, refl, sym, ◌∙◌}
-use lib.ListN.{length}
-use Rattle.polygon.proofs.Index.{Counted, counted_none, counted_more, counted_all}
+use mathlib.Core.Path.{refl}
+use Rattle.polygon.proofs.Index.{counted_none, counted_more, counted_all}
 use Rattle.polygon.proofs.polygon.identity.Goals as goal
 
 pub loop-i-init : goal.loop-i-init
@@ -24,4 +22,4 @@ pub loop-i-preserved : goal.loop-i-preserved
 loop-i-preserved c = (c.loop-i.invariant.0, omega arith, counted_more c.loop-i-test.true c.loop-i.invariant.2, counted_more c.loop-i-test.true c.loop-i.invariant.3)
 
 pub returns : goal.returns
-returns c = record { ring = counted_all c.loop-i-test.false c.loop-i.invariant.2; index = counted_all c.loop-i-test.false c.loop-i.invariant.3; }
+returns c = record { ring = counted_all c.loop-i-test.false c.loop-i.invariant.2; index = counted_all c.loop-i-test.false c.loop-i.invariant.3 }

@@ -1,9 +1,8 @@
 -- `identity` meets its contract: after i turns the first i entries of ring and index are 0, 1, .., i - 1.
 use Prim.Native.Nat.{◌-◌, ◌≤◌}
-use native.Mathlib.Omega.{arith}
-use mathlib.Core.Path.{◌≡◌, refl, sym, ◌∙◌}
+use mathlib.Core.Path.{◌≡◌}
 use lib.ListN.{length}
-use Rattle.polygon.proofs.Index.{Counted, counted_none, counted_more, counted_all}
+use Rattle.polygon.proofs.Index.{Counted}
 use Rattle.polygon.proofs.polygon.identity.Given as goal
 
 abbrev pub invariant-loop-i : goal.invariant-loop-i

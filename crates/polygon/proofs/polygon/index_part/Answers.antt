@@ -1,8 +1,7 @@
-use Prim.Native.Nat.{◌-◌, ◌≤◌, ◌<◌}
+use Prim.Native.Nat.{◌<◌}
 use native.Mathlib.Omega.{arith}
-use mathlib.Core.Path.{sym, ◌∙◌}
 use lib.ListN.{length}
-use Rattle.polygon.specs.Ring.{at, IndexedBut}
+use Rattle.polygon.specs.Ring.{at}
 use Rattle.polygon.proofs.Index.{index_more, index_all}
 use Rattle.polygon.proofs.polygon.index_part.Goals as goal
 

@@ -1,10 +1,7 @@
 -- `index_part` meets its contract: after each write one point more is found, until none is left out.
-use Prim.Native.Nat.{◌-◌, ◌≤◌, ◌<◌}
-use native.Mathlib.Omega.{arith}
-use mathlib.Core.Path.{sym, ◌∙◌}
+use Prim.Native.Nat.{◌-◌, ◌≤◌}
 use lib.ListN.{length}
-use Rattle.polygon.specs.Ring.{at, IndexedBut}
-use Rattle.polygon.proofs.Index.{index_more, index_all}
+use Rattle.polygon.specs.Ring.{IndexedBut}
 use Rattle.polygon.proofs.polygon.index_part.Given as goal
 
 abbrev pub invariant-loop-i : goal.invariant-loop-i

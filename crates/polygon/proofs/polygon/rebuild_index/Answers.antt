@@ -1,5 +1,4 @@
 -- `rebuild_index` meets its contract: of no position is anything asked of the old index.
-use borrow.Author.Rules.{rules}
 use native.Mathlib.Omega.{arith}
 use Rattle.polygon.proofs.Index.{index_nothing}
 use Rattle.polygon.proofs.polygon.rebuild_index.Goals as goal

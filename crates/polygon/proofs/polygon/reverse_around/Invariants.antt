@@ -1,7 +1,6 @@
 -- `reverse_around` meets its contract: each swap leaves a shorter stretch whose reversal comes to the same ring, and the index follows.
-use mathlib.Core.Path.{sym, ◌∙◌}
 use Rattle.polygon.specs.Ring.{dist}
-use Rattle.polygon.proofs.PositionLoops.{Reversing, reversing_starts, reversing_apart, reversing_second, reversing_indexed, reversing_met, reversing_met_back, reversing_goes, reversing_falls}
+use Rattle.polygon.proofs.PositionLoops.{Reversing}
 use Rattle.polygon.proofs.polygon.reverse_around.Given as goal
 
 abbrev pub invariant-loop-pt1 : goal.invariant-loop-pt1

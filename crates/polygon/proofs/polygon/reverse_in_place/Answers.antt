@@ -1,7 +1,6 @@
-use borrow.Author.Rules.{rules}
 use native.Mathlib.Omega.{arith}
 use lib.ListN.{length-set}
-use Rattle.polygon.proofs.Reverser.{Half, half_start, half_step, half_end}
+use Rattle.polygon.proofs.Reverser.{half_start, half_step, half_end}
 use Rattle.polygon.proofs.polygon.reverse_in_place.Goals as goal
 
 pub loop-i-init : goal.loop-i-init

@@ -1,8 +1,5 @@
 -- `reverse_in_place` meets its contract: the entries before i and from j on are those of the reversed list, and the ones between are untouched.
-use borrow.Author.Rules.{rules}
-use native.Mathlib.Omega.{arith}
-use lib.ListN.{length-set}
-use Rattle.polygon.proofs.Reverser.{Half, half_start, half_step, half_end}
+use Rattle.polygon.proofs.Reverser.{Half}
 use Rattle.polygon.proofs.polygon.reverse_in_place.Given as goal
 
 abbrev pub invariant-loop-i : goal.invariant-loop-i

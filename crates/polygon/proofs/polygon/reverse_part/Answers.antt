@@ -1,5 +1,4 @@
 -- `reverse_part` meets its contract: the part lent on comes back reversed, and outside of it the index is right still.
-use borrow.Author.Rules.{rules}
 use Prim.Native.Nat.{ℕ, ◌+◌, ◌-◌}
 use native.Mathlib.Omega.{arith}
 use mathlib.Core.Path.{◌≡◌, ◌∙◌, ap}
@@ -25,4 +24,4 @@ returns c =
     take p ring ++ (c.reverse_in_place.new.list ++ drop (c.args.pt2.id.0 + 1 - p) (drop p ring)) in
     let turned_is : turned ≡ reversed c.args.pt1.size c.args.ring.now c.args.pt1.id.0 c.args.pt2.id.0 = rw c.reverse_in_place.ensures (part_reversed c.args.pt1.size c.args.pt1.id.0 c.args.pt2.id.0 c.requires.2 c.requires.1.second c.args.ring.now c.requires.0.ring.len) in
     let outside : IndexedBut c.args.pt1.size turned c.args.index.now c.args.pt1.id.0 (c.args.pt2.id.0 + 1) = outside_indexed c.args.pt1.size c.args.pt1.id.0 c.args.pt2.id.0 c.requires.2 c.requires.1.second c.requires.0 turned_is in
-    record { ring = turned_is; index = c.index_part.ensures ∙ ap (λ n. index_of n turned) outside.ring.len; }
+    record { ring = turned_is; index = c.index_part.ensures ∙ ap (λ n. index_of n turned) outside.ring.len }

@@ -1,5 +1,4 @@
 -- `swap_positions` meets its contract: it swaps two entries of the ring, and in the index the entries of the two points.
-use borrow.Author.Rules.{rules}
 use Prim.Native.Nat.{◌<◌}
 use native.Mathlib.Omega.{arith}
 use lib.ListN.{length-set}
@@ -55,4 +54,4 @@ bounds-index-y-2 c =
     simp length-set (omega (arith, second, c.requires.0.index.size))
 
 pub returns : goal.returns
-returns c = record { ring = refl; index = indexed_is (indexed_swap c.requires.0 c.args.pa.id.0 c.args.pb.id.0 c.requires.1.first c.requires.1.second); }
+returns c = record { ring = refl; index = indexed_is (indexed_swap c.requires.0 c.args.pa.id.0 c.args.pb.id.0 c.requires.1.first c.requires.1.second) }

@@ -1,5 +1,4 @@
 -- `turn_round` meets its contract: one place back from position 0 is the last.
-use borrow.Author.Rules.{rules}
 use mathlib.Core.Path.{refl, ◌∙◌, ap}
 use native.Mathlib.Omega.{arith}
 use lib.ListN.{length}
@@ -13,4 +12,4 @@ vertices_reverse-requires c = (c.requires.0, rw c.prev.ensures (record { same = 
 pub returns : goal.returns
 returns c =
     let ring = c.args.ring.now in
-    record { ring = c.vertices_reverse.ensures.ring ∙ ap (λ (p : Position). reversed (length ring) ring 0 p.id.0) c.prev.ensures; index = c.vertices_reverse.ensures.index; }
+    record { ring = c.vertices_reverse.ensures.ring ∙ ap (λ (p : Position). reversed (length ring) ring 0 p.id.0) c.prev.ensures; index = c.vertices_reverse.ensures.index }

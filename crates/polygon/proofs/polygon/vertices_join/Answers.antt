@@ -1,6 +1,5 @@
 use mathlib.Core.Path.{sym, ◌∙◌}
-use Rattle.polygon.specs.Ring.{dist}
-use Rattle.polygon.proofs.PositionLoops.{Coming, coming_starts, coming_within, coming_met, coming_indexed, coming_apart, coming_goes, coming_falls}
+use Rattle.polygon.proofs.PositionLoops.{coming_starts, coming_within, coming_met, coming_indexed, coming_apart, coming_goes, coming_falls}
 use Rattle.polygon.proofs.polygon.vertices_join.Goals as goal
 
 pub loop-pt1-init : goal.loop-pt1-init
@@ -13,7 +12,7 @@ pub eq-requires : goal.eq-requires
 eq-requires c = tt
 
 pub returns-then-eq : goal.returns-then-eq
-returns-then-eq c = let r = coming_met c.loop-pt1.invariant c.prev-prev.ensures (sym c.eq.ensures ∙ c.if-eq.true) in record { ring = r.0; index = r.1; }
+returns-then-eq c = let r = coming_met c.loop-pt1.invariant c.prev-prev.ensures (sym c.eq.ensures ∙ c.if-eq.true) in record { ring = r.0; index = r.1 }
 
 pub swap_positions-requires : goal.swap_positions-requires
 swap_positions-requires c = (coming_indexed c.loop-pt1.invariant c.prev-prev.ensures, coming_apart c.loop-pt1.invariant c.prev-prev.ensures (sym c.eq.ensures ∙ c.if-eq.false))

@@ -1,7 +1,6 @@
 -- `vertices_join` meets its contract: each swap brings the point one place back, and to go on from there comes to the same ring.
-use mathlib.Core.Path.{sym, ◌∙◌}
 use Rattle.polygon.specs.Ring.{dist}
-use Rattle.polygon.proofs.PositionLoops.{Coming, coming_starts, coming_within, coming_met, coming_indexed, coming_apart, coming_goes, coming_falls}
+use Rattle.polygon.proofs.PositionLoops.{Coming}
 use Rattle.polygon.proofs.polygon.vertices_join.Given as goal
 
 abbrev pub invariant-loop-pt1 : goal.invariant-loop-pt1

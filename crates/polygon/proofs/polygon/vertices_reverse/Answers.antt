@@ -1,5 +1,4 @@
 -- `vertices_reverse` meets its contract: whether or not the stretch wraps, its helper has the same one.
-use borrow.Author.Rules.{rules}
 use mathlib.Core.Path.{sym, ◌∙◌}
 use borrow.Author.Tests.{ltb-true}
 use Rattle.polygon.proofs.polygon.vertices_reverse.Goals as goal

@@ -1,5 +1,5 @@
 -- `go_on` meets its contract: the picks, the end.
-use mathlib.Core.Path.{sym, ◌∙◌}
+use mathlib.Core.Path.{sym}
 use native.Mathlib.Omega.{arith}
 use Rattle.resolve.proofs.Ending.{ran_ring, ran_left, ran_ended}
 use Rattle.resolve.proofs.resolve.go_on.Goals as goal

@@ -1,5 +1,4 @@
 -- `resolve` meets its contract: the start, then the picks and the end.
-use mathlib.Core.Path.{◌∙◌}
 use Rattle.geometry.specs.Lent.{points}
 use Rattle.machine.specs.Machine.{begin}
 use Rattle.resolve.proofs.Picking.{before_picks}

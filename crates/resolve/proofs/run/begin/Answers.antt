@@ -1,6 +1,5 @@
 -- `begin` meets its contract: no records, then the sweeps of the ring's edges.
-use mathlib.Core.Path.{refl, ◌∙◌}
-use borrow.Author.Rules.{rules}
+use mathlib.Core.Path.{refl}
 use Rattle.geometry.specs.Lent.{points}
 use Rattle.intersection_set.specs.Store.{empty}
 use Rattle.intersection_set.specs.Pool.{lent}

@@ -1,21 +1,16 @@
 -- `run` meets its contract. The loop's invariant: the buffers hold the machine after the picks before i, each of which made one move.
-use mathlib.Core.Path.{◌≡◌, refl, sym, ◌∙◌, subst}
-use mathlib.Core.Bool.{true, ◌&&◌}
-use mathlib.Core.List.{List, []}
-use Prim.Native.Nat.{ℕ, ◌+◌, ◌-◌, ◌≤◌, ◌<◌}
-use native.Mathlib.Omega.{arith}
-use borrow.Author.Rules.{rules}
-use borrow.Author.Tests.{ltb-true}
+use mathlib.Core.Path.{◌≡◌}
+use mathlib.Core.Bool.{◌&&◌}
+use mathlib.Core.List.{[]}
+use Prim.Native.Nat.{◌-◌, ◌≤◌}
 use lib.Dec.{ltb}
-use lib.ListN.{length, get_or, take}
-use Rattle.algebra.specs.Cases.{and_left, and_right}
+use lib.ListN.{length, take}
 use Rattle.geometry.specs.Lent.{points}
 use Rattle.intersection_set.specs.Pool.{lent, pool_of}
-use Rattle.intersection_set.proofs.Lengths.{AsLong, as_long_self}
+use Rattle.intersection_set.proofs.Lengths.{AsLong}
 use Rattle.machine.specs.Machine.{State, run_word, place}
 use Rattle.machine.specs.Onward.{from}
 use Rattle.untangle.specs.Running.{Running}
-use Rattle.resolve.proofs.Picking.{take_more, running_more, picked, one_more, ended, moves_made}
 use Rattle.resolve.proofs.run.run.Given as goal
 
 abbrev pub invariant-loop-more : goal.invariant-loop-more

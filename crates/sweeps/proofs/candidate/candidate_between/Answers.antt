@@ -1,7 +1,6 @@
 -- `candidate_between` meets its contract: the other edge is that of the two points.
 use mathlib.Core.Path.{◌≡◌, refl, ◌∙◌, ap}
 use mathlib.Core.Bool.{Bool, true, false}
-use borrow.Author.Rules.{rules}
 use Rattle.geometry.specs.Lent.{points}
 use Rattle.index_edge.specs.Edge.{edge}
 use Rattle.index_edge.specs.Number.{edge_of}

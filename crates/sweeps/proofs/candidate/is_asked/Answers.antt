@@ -1,7 +1,6 @@
 -- `is_asked` meets its contract.
 use mathlib.Core.Path.{◌≡◌, ◌∙◌, ap}
 use mathlib.Core.Bool.{true, false, not}
-use borrow.Author.Rules.{rules}
 use Rattle.index_edge.specs.Edge.{Edge, eq_edge, lt_edge}
 use Rattle.index_edge.specs.Number.{edge_of}
 use Rattle.sweeps.proofs.candidate.is_asked.Goals as goal

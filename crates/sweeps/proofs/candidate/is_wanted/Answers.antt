@@ -1,16 +1,12 @@
 -- `is_wanted` meets its contract: on one line the order of the ends tells what is met; what lies on one side is not, and an edge that is not asked makes no record.
-use mathlib.Core.Path.{◌≡◌, refl, sym, ◌∙◌, ap, ap₂}
-use mathlib.Core.Bool.{not}
-use borrow.Author.Rules.{rules}
+use mathlib.Core.Path.{◌≡◌, refl, sym, ◌∙◌, ap₂}
 use native.Mathlib.Omega.{arith}
-use Rattle.algebra.specs.Cases.{not_true, not_false}
 use Rattle.geometry.specs.Segment.{same_side}
 use Rattle.geometry.specs.Lent.{points}
 use Rattle.geometry.proofs.Reading.{read_64}
 use Rattle.index_edge.specs.Edge.{edge}
 use Rattle.index_edge.specs.Number.{edge_of}
 use Rattle.machine.specs.Board.{meet_edges}
-use Rattle.sweeps.specs.Sweep.{asked}
 use Rattle.sweeps.proofs.Seeing.{met_on_line, not_met, wanted_is, met_asked, unmet, unasked}
 use Rattle.sweeps.proofs.candidate.is_wanted.Goals as goal
 

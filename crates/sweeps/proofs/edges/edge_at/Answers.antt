@@ -1,6 +1,5 @@
 -- `edge_at` meets its contract: its two numbers are those at the position and one place on.
 use mathlib.Core.Path.{◌∙◌, ap, ap₂}
-use borrow.Author.Rules.{rules}
 use Rattle.index_edge.specs.Edge.{edge}
 use Rattle.polygon.specs.Ring.{at}
 use Rattle.polygon.specs.declared.position.Position.{Position}

@@ -1,6 +1,5 @@
 -- `source_len` meets its contract, by cases of what is swept.
 use mathlib.Core.Path.{sym, ◌∙◌}
-use borrow.Author.Rules.{rules}
 use lib.ListN.{length-map}
 use Rattle.algebra.specs.Ranges.{up_from, up_from_length}
 use Rattle.sweeps.proofs.Several.{few_length}

@@ -1,7 +1,6 @@
 -- `intersects` meets its contract: on one line by the order of the ends; else its four ends are those of the edges, and open where they are shared.
 use mathlib.Core.Path.{sym, ◌∙◌, ap₂, subst⁻¹}
 use mathlib.Core.Bool.{◌||◌}
-use borrow.Author.Rules.{rules}
 use Rattle.geometry.specs.Plane.{turn}
 use Rattle.geometry.specs.Segment.{shared, meets}
 use Rattle.geometry.specs.Lent.{points, InRange}

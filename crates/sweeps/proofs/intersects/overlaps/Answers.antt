@@ -1,5 +1,4 @@
 -- `overlaps` meets its contract: the keys order as the points do.
-use borrow.Author.Rules.{rules}
 use Rattle.geometry.proofs.Reading.{read_64}
 use Rattle.sweeps.proofs.Seeing.{overlap_by}
 use Rattle.sweeps.proofs.intersects.overlaps.Goals as goal

@@ -1,6 +1,5 @@
 -- `see` meets its contract: the turn is that of the edge's ends to the point.
 use mathlib.Core.Path.{refl, ◌∙◌, ap, subst⁻¹}
-use borrow.Author.Rules.{rules}
 use Rattle.geometry.specs.Plane.{turn}
 use Rattle.geometry.specs.Lent.{InRange, order_key}
 use Rattle.geometry.proofs.Reading.{read_64, here_in_range}

@@ -1,7 +1,6 @@
 -- `seen_after` meets its contract: the place after i is the next one.
 use mathlib.Core.Path.{subst}
 use native.Mathlib.Omega.{arith}
-use borrow.Author.Rules.{rules}
 use Rattle.geometry.specs.Lent.{points}
 use Rattle.geometry.proofs.Reading.{here}
 use Rattle.index_edge.specs.Number.{edge_of}

@@ -2,7 +2,6 @@
 use mathlib.Core.Path.{◌≡◌, subst}
 use native.Mathlib.Omega.{arith}
 use Prim.Native.Nat.{◌-◌}
-use borrow.Author.Rules.{rules}
 use Rattle.algebra.specs.Cases.{both}
 use Rattle.geometry.specs.Lent.{points}
 use Rattle.index_edge.specs.Number.{edge_of}

@@ -1,13 +1,11 @@
-use Prim.Native.Nat.{◌-◌, ◌≤◌, ◌<◌}
+use Prim.Native.Nat.{◌<◌}
 use mathlib.Core.Path.{◌≡◌, ◌∙◌, subst, subst⁻¹}
 use native.Mathlib.Omega.{arith}
 use lib.ListN.{length, take}
-use borrow.Author.Rules.{rules}
 use Rattle.intersection_set.specs.Store.{Store, removes}
-use Rattle.intersection_set.specs.Pool.{lent, pool_of}
 use Rattle.intersection_set.specs.Within.{Proper}
 use Rattle.intersection_set.specs.Holds.{Holds}
-use Rattle.intersection_set.proofs.Lengths.{AsLong, as_long_self}
+use Rattle.intersection_set.proofs.Lengths.{as_long_self}
 use Rattle.sweeps.specs.Few.{few_of}
 use Rattle.sweeps.proofs.Several.{few_length, next_removal, removes_of_all}
 use Rattle.sweeps.proofs.sweep.remove_edges.Goals as goal

@@ -1,16 +1,11 @@
 -- `remove_edges` meets its contract. The loop's invariant: whatever store the buffers held, they now hold it without the records of the edges before i.
-use Prim.Native.Nat.{◌-◌, ◌≤◌, ◌<◌}
-use mathlib.Core.Path.{◌≡◌, ◌∙◌, subst, subst⁻¹}
-use native.Mathlib.Omega.{arith}
-use lib.ListN.{length, take}
-use borrow.Author.Rules.{rules}
+use Prim.Native.Nat.{◌-◌, ◌≤◌}
+use lib.ListN.{take}
 use Rattle.intersection_set.specs.Store.{Store, removes}
 use Rattle.intersection_set.specs.Pool.{lent, pool_of}
-use Rattle.intersection_set.specs.Within.{Proper}
 use Rattle.intersection_set.specs.Holds.{Holds}
-use Rattle.intersection_set.proofs.Lengths.{AsLong, as_long_self}
+use Rattle.intersection_set.proofs.Lengths.{AsLong}
 use Rattle.sweeps.specs.Few.{few_of}
-use Rattle.sweeps.proofs.Several.{few_length, next_removal, removes_of_all}
 use Rattle.sweeps.proofs.sweep.remove_edges.Given as goal
 
 abbrev pub invariant-loop-i : goal.invariant-loop-i

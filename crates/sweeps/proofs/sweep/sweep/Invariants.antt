@@ -1,23 +1,16 @@
 -- `sweep` meets its contract. The loop's invariant: whatever store the buffers held, they now hold it after a sweep over the edges before i.
 use Prim.Native.Nat.{◌-◌, ◌≤◌, ◌<◌}
-use mathlib.Core.Path.{◌≡◌, ap, ◌∙◌, subst, subst⁻¹}
-use mathlib.Core.Bool.{true}
-use native.Mathlib.Omega.{arith}
 use lib.ListN.{take}
 use Rattle.geometry.specs.Lent.{points}
-use Rattle.geometry.proofs.Reading.{here}
-use Rattle.index_edge.specs.Edge.{Edge}
 use Rattle.index_edge.specs.Number.{edge_of}
 use Rattle.polygon.specs.Ring.{at}
-use Rattle.polygon.specs.Edges.{edge_at, edges}
+use Rattle.polygon.specs.Edges.{edges}
 use Rattle.intersection_set.specs.Store.{Store}
 use Rattle.intersection_set.specs.Pool.{lent, pool_of}
-use Rattle.intersection_set.specs.Within.{Proper}
-use Rattle.intersection_set.specs.Holds.{Holds, MayPush}
-use Rattle.intersection_set.proofs.Lengths.{AsLong, as_long_self}
-use Rattle.sweeps.specs.Sight.{Sees, Sight}
-use Rattle.sweeps.specs.Sweep.{first_of, second_of, wanted, sweep_over, Fits}
-use Rattle.sweeps.proofs.Sweeping.{two, sees_on, edge_is, sight, may_now, next_is, sweep_none, sweep_all}
+use Rattle.intersection_set.specs.Holds.{Holds}
+use Rattle.intersection_set.proofs.Lengths.{AsLong}
+use Rattle.sweeps.specs.Sight.{Sees}
+use Rattle.sweeps.specs.Sweep.{sweep_over, Fits}
 use Rattle.sweeps.proofs.sweep.sweep.Given as goal
 
 abbrev pub invariant-loop-i : goal.invariant-loop-i

@@ -1,15 +1,14 @@
-use Prim.Native.Nat.{◌-◌, ◌≤◌, ◌<◌}
+use Prim.Native.Nat.{◌<◌}
 use mathlib.Core.Path.{◌≡◌, ◌∙◌, subst, subst⁻¹}
 use native.Mathlib.Omega.{arith}
 use lib.ListN.{length, take}
 use Rattle.geometry.specs.Lent.{points}
 use Rattle.polygon.specs.Edges.{edges}
 use Rattle.intersection_set.specs.Store.{Store}
-use Rattle.intersection_set.specs.Pool.{lent, pool_of}
 use Rattle.intersection_set.specs.Within.{Proper}
 use Rattle.intersection_set.specs.Holds.{Holds}
-use Rattle.intersection_set.proofs.Lengths.{AsLong, as_long_self}
-use Rattle.sweeps.specs.Few.{source, sweeps_over, FitAll}
+use Rattle.intersection_set.proofs.Lengths.{as_long_self}
+use Rattle.sweeps.specs.Few.{source, sweeps_over}
 use Rattle.sweeps.proofs.Several.{sweeps_none, sweeps_all, next_sweep, fits_now}
 use Rattle.sweeps.proofs.sweep.sweeps.Goals as goal
 

@@ -1,17 +1,13 @@
 -- `sweeps` meets its contract. The loop's invariant: whatever store the buffers held, they now hold it after the sweeps for the edges before i.
-use Prim.Native.Nat.{◌-◌, ◌≤◌, ◌<◌}
-use mathlib.Core.Path.{◌≡◌, ◌∙◌, subst, subst⁻¹}
-use native.Mathlib.Omega.{arith}
-use lib.ListN.{length, take}
+use Prim.Native.Nat.{◌-◌, ◌≤◌}
+use lib.ListN.{take}
 use Rattle.geometry.specs.Lent.{points}
 use Rattle.polygon.specs.Edges.{edges}
 use Rattle.intersection_set.specs.Store.{Store}
 use Rattle.intersection_set.specs.Pool.{lent, pool_of}
-use Rattle.intersection_set.specs.Within.{Proper}
 use Rattle.intersection_set.specs.Holds.{Holds}
-use Rattle.intersection_set.proofs.Lengths.{AsLong, as_long_self}
+use Rattle.intersection_set.proofs.Lengths.{AsLong}
 use Rattle.sweeps.specs.Few.{source, sweeps_over, FitAll}
-use Rattle.sweeps.proofs.Several.{sweeps_none, sweeps_all, next_sweep, fits_now}
 use Rattle.sweeps.proofs.sweep.sweeps.Given as goal
 
 abbrev pub invariant-loop-i : goal.invariant-loop-i

@@ -1,7 +1,6 @@
 -- `inner` meets its contract: either kind of end holds its point.
 use mathlib.Core.Path.{sym, ap}
 use Rattle.geometry.specs.Answers.{end_of}
-use borrow.Author.Rules.{rules}
 use Rattle.geometry.proofs.line_segment.EndPoint.inner.Goals as goal
 
 pub returns-in-Exclusive : goal.returns-in-Exclusive

@@ -1,6 +1,5 @@
 -- `IndexIntersection::new` meets its contract: its branch is on the order of the two edges.
 use mathlib.Core.Path.{sym, ◌∙◌}
-use borrow.Author.Rules.{rules}
 use Rattle.intersection_set.proofs.intersection_set.IndexIntersection.new.Goals as goal
 
 pub returns-then-lt : goal.returns-then-lt
