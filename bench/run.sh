@@ -8,12 +8,12 @@ oracle=$(cd "${1:?folder of the oracle}" && pwd)
 sources=$(cd "${2:-$oracle/../docs/src/src}" && pwd)
 cd "$(dirname "$0")/.."
 out=$PWD/target/bench
-rt staticlib host
+(cd crates/host && rt lib)
 mkdir -p "$out"
 rm -rf "$out/oracle"
 cp -R "$oracle" "$out/oracle"
 mkdir -p "$out/oracle/standin/src/algorithms/polygonization" "$out/oracle/standin/src/algorithms/intersection"
 sh "$out/oracle/build.sh" "$out/original" "$sources"
-rustc --edition 2024 -D warnings -C opt-level=3 -C codegen-units=1 bench/bench.rs -o "$out/bench" -L native=target/staticlib \
+rustc --edition 2024 -D warnings -C opt-level=3 -C codegen-units=1 bench/bench.rs -o "$out/bench" -L native=crates/host/out \
     -L "$out/original" --extern rgeometry="$out/original/librgeometry.rlib"
 "$out/bench"

@@ -4,10 +4,10 @@
 set -eu
 cd "$(dirname "$0")/.."
 out=target/hosts
-rt staticlib host
+(cd crates/host && rt lib)
 mkdir -p "$out"
-cc -std=c11 -Wall -Wextra -Werror -O2 hosts/example.c -o "$out/example_c" target/staticlib/libhost.a
-rustc --edition 2024 -D warnings -O hosts/example.rs -o "$out/example_rust" -L native=target/staticlib
+cc -std=c11 -Wall -Wextra -Werror -O2 hosts/example.c -o "$out/example_c" crates/host/out/libhost.a
+rustc --edition 2024 -D warnings -O hosts/example.rs -o "$out/example_rust" -L native=crates/host/out
 for example in example_c example_rust; do
     "$out/$example" >"$out/$example.out"
     diff -u hosts/output "$out/$example.out"

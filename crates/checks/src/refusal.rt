@@ -4,7 +4,7 @@ ghost use Rattle.algebra.specs.Ranges.{all_below, up_from};
 ghost use Rattle.geometry.specs.Lent.{points, Lent};
 ghost use Rattle.machine.specs.Board.{is_straight_line};
 ghost use Rattle.machine.specs.Answer.{refusal};
-ghost use Rattle.checks.specs.Checks.{short, early as earlyChecks, first_four, late as lateChecks};
+ghost use Rattle.checks.specs.Checks.{short, early as early_checks, first_four, late as late_checks};
 
 use super::start::{all_colinear, in_range, none_alike};
 use geometry::orientation::turn_at;
@@ -50,7 +50,7 @@ pub fn too_short(
 // Checks 1, 2 and 3.
 fn early(n: usize, x: &[i32], y: &[i32], short: bool) -> u8
     requires { n ≤ 256 → short ≡ false → (n ≤ length x.now) × (n ≤ length y.now) }
-    ensures { result ≡ earlyChecks n (points x.now y.now) short }
+    ensures { result ≡ early_checks n (points x.now y.now) short }
 {
     if 256 < n {
         return 1;
@@ -82,7 +82,7 @@ pub fn first_four(n: usize, x: &[i32], y: &[i32], ring: &[u16], short: bool) -> 
 // Checks 5 and 6.
 fn late(n: usize, x: &[i32], y: &[i32]) -> u8
     requires { Lent n x.now y.now }
-    ensures { result ≡ lateChecks n (points x.now y.now) }
+    ensures { result ≡ late_checks n (points x.now y.now) }
 {
     if !none_alike(n, x, y) {
         return 5;

@@ -1,7 +1,6 @@
 // A ring position together with the ring it walks (polygon.rs, `Cursor`).
 //
-// No function over a struct that holds a slice is covered by the borrow checker. So each is thin, hands slice and position on to a
-// covered function, and is proved by a walk of its own. Callers use `point_after`: its parameters are plain, and they need no walk.
+// Callers that have a slice and a position apart use `point_after`.
 #![tactic(auto)]
 
 ghost use Rattle.std.specs.Prelude.{◌≡◌, ◌<◌, length};

@@ -1,14 +1,14 @@
 -- What is proved of the plane, and where:
---   turns: turn-cycle, turn-swap, four (Turns); the fourth turn by the other three: fourth-is (Signs)
---   the tests decide document 01's words: contains-decides (Containing), meets-decides (Meeting), inside-decides (Lines)
---   so do the public answers: containment-decides, meeting-decides; what is refused: proper-decides, meeting-refuses (Answering)
---   from a common place to the signs of the turns and back: mixed, meets-not-above, meets-not-below, meets-by-signs (Places)
---   a common end of segments that are not on one line is their only common place: common-end (Meeting)
---   uncrossing: uncross (Places), laid-apart (Crossing)
---   lines: collinear-trans (Places), three (Points); the order along a line: inside-decides (Lines), height-up, height-down (Height)
---   the order of the two segments and of their ends does not matter: meets-swap, meets-rev (Symmetry)
---   the square of a distance: distance-back, distance-small, distance-some (Distances)
---   document 01's boards: rows-hold (Boards)
+--   turns: turn_cycle, turn_swap, four (Turns); the fourth turn by the other three: fourth_is (Signs)
+--   the tests decide document 01's words: contains_decides (Containing), meets_decides (Meeting), inside_decides (Lines)
+--   so do the public answers: containment_decides, meeting_decides; what is refused: proper_decides, meeting_refuses (Answering)
+--   from a common place to the signs of the turns and back: mixed, meets_not_above, meets_not_below, meets_by_signs (Places)
+--   a common end of segments that are not on one line is their only common place: common_end (Meeting)
+--   uncrossing: uncross (Places), laid_apart (Crossing)
+--   lines: collinear_trans (Places), three (Points); the order along a line: inside_decides (Lines), height_up, height_down (Height)
+--   the order of the two segments and of their ends does not matter: meets_swap, meets_rev (Symmetry)
+--   the square of a distance: distance_back, distance_small, distance_some (Distances)
+--   document 01's boards: rows_hold (Boards)
 pub mod Turns
 pub mod Points
 pub mod Places

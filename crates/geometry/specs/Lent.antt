@@ -7,7 +7,7 @@ use Rattle.geometry.specs.Plane.{Point, near}
 abbrev pub spot : PointValue → Point
 spot p = record { x = p.x; y = p.y }
 
--- a number that orders the points within the limits as ltP does
+-- a number that orders the points within the limits as `lt_point` does
 abbrev pub order_key : Point → ℤ
 order_key a = a.x *ℤ pos 4294967296 +ℤ a.y
 

@@ -5,7 +5,7 @@
 // `heads` has each edge's newest record.
 ghost use Rattle.std.specs.Prelude.{◌≡◌, true, not, cond, map, ℕ, ◌<◌, ◌≤◌, length, get_or, set, replicate};
 ghost use Rattle.index_edge.specs.Number.{edge_of};
-ghost use Rattle.intersection_set.specs.Store.{Store, no_rec, empty, push as pushed, remove_all as allRemoved, chosen};
+ghost use Rattle.intersection_set.specs.Store.{Store, no_rec, empty, push as pushed, remove_all as all_removed, chosen};
 ghost use Rattle.intersection_set.specs.Lists.{none, head_place};
 ghost use Rattle.intersection_set.specs.Words.{packed, part0, part1, part2, part3, unit_of, with_link};
 ghost use Rattle.intersection_set.specs.Pool.{Pool, edges_of, links_in, nexts_in, prevs_in, links_of, lent, pool_of, end0, end1, head_at, set_end, set_head, unlink_from, put_edges, put_ends, clear_ends, pool_push, pool_remove, lesser, greater};
@@ -344,7 +344,7 @@ pub fn remove_all(
     ensures { let was = lent heads.old ends.now links.old dense.old reverse.old free.old in
         let is = lent heads.new ends.now links.new dense.new reverse.new free.new in
         ((s : Store) → Holds n (pool_of was c) s
-        → Holds n (pool_of is result) (allRemoved (edge_of e) s)) }
+        → Holds n (pool_of is result) (all_removed (edge_of e) s)) }
 {
     let mut k = c;
     let mut newest = by_edge(n, e, heads);

@@ -12,7 +12,7 @@ use Rattle.polygon.specs.Edges.{edges}
 abbrev pub IsFeed : Point → Point → ℕ → Type 0
 IsFeed a b f = Root (squared_distance a b) f
 
--- That number by computation (feed-is, feed-only).
+-- That number by computation (feed_is, feed_only).
 unfoldable pub feed_between : Point → Point → ℕ
 feed_between a b = root (squared_distance a b)
 

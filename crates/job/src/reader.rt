@@ -2,10 +2,10 @@
 ghost use Rattle.std.specs.Prelude.{◌≡◌, true, ◌+◌, ◌*◌, ◌^◌, ◌≤◌, ◌<◌, length};
 ghost use Rattle.job.specs.Words.{word, signed};
 ghost use Rattle.job.specs.Steps.{steps};
-ghost use Rattle.job.specs.Steps.{tenth as tenthOf};
+ghost use Rattle.job.specs.Steps.{tenth as tenth_of};
 ghost use Rattle.job.specs.Buffers.{over};
 ghost use Rattle.job.specs.Job.{outside, shares_bytes, decide, Reading};
-ghost use Rattle.job.specs.Job.{refusal as refusalOf};
+ghost use Rattle.job.specs.Job.{refusal as refusal_of};
 
 use super::word::word_at;
 
@@ -19,7 +19,7 @@ pub enum Outcome {
 // The nearest tenth part, an exact half upward.
 fn tenth(n: u32) -> u32
     requires { n ≤ 2 ^ 31 }
-    ensures { result ≡ tenthOf n }
+    ensures { result ≡ tenth_of n }
 {
     (n + 5) / 10
 }
@@ -134,7 +134,7 @@ fn check_words(
 
 // The number of the first check that fails, or 0.
 fn refusal(job: &[u8], nx: usize, ny: usize, np: usize) -> u8
-    ensures { result ≡ refusalOf job.now nx ny np }
+    ensures { result ≡ refusal_of job.now nx ny np }
 {
     if job.len() < 20 {
         return 9;

@@ -1,7 +1,7 @@
 // What makes an edge and an edge of the ring a record.
 ghost use Rattle.std.specs.Prelude.{◌≡◌};
 ghost use Rattle.geometry.specs.Lent.{points};
-ghost use Rattle.index_edge.specs.Edge.{edge as edgeBetween};
+ghost use Rattle.index_edge.specs.Edge.{edge as edge_between};
 ghost use Rattle.index_edge.specs.Number.{edge_of};
 ghost use Rattle.sweeps.specs.Sight.{Sight};
 ghost use Rattle.sweeps.specs.Sweep.{asked, first_of, second_of, wanted};
@@ -12,7 +12,7 @@ use index_edge::{IndexEdge, PointId};
 
 // In a move every other edge is asked whether it meets, at the start every greater one: here that from one point to the next.
 fn is_asked(moves: bool, edge: IndexEdge, from: PointId, to: PointId) -> bool
-    ensures { result ≡ asked moves (edge_of edge) (edgeBetween from.0 to.0) }
+    ensures { result ≡ asked moves (edge_of edge) (edge_between from.0 to.0) }
 {
     let other = IndexEdge::new(from, to);
     if moves {
@@ -26,7 +26,7 @@ fn is_asked(moves: bool, edge: IndexEdge, from: PointId, to: PointId) -> bool
 // order of the ends, else that both points lie on one side.
 fn is_wanted(moves: bool, x: &[i32], y: &[i32], a: Segment, from: Seen, to: Seen) -> bool
     requires { Sight x.now y.now a from to }
-    ensures { result ≡ wanted (points x.now y.now) moves (edge_of a.edge) (edgeBetween from.id.0 to.id.0) }
+    ensures { result ≡ wanted (points x.now y.now) moves (edge_of a.edge) (edge_between from.id.0 to.id.0) }
 {
     if is_zero(from.turn) & is_zero(to.turn) {
         if !overlaps(a, from, to) {
@@ -62,7 +62,7 @@ pub fn candidate_between(
 ) -> Candidate
     requires { Sight x.now y.now a from to }
     ensures { let e = edge_of a.edge in
-        let f = edgeBetween from.id.0 to.id.0 in
+        let f = edge_between from.id.0 to.id.0 in
         (edge_of result.first ≡ first_of moves e f) × (edge_of result.second ≡ second_of moves e f) × (result.ok ≡ wanted (points x.now y.now) moves e f) }
 {
     let edge = a.edge;

@@ -4,7 +4,7 @@ ghost use Rattle.std.specs.Int.Signed.{lt_z};
 ghost use Rattle.geometry.specs.Segment.{is_open, overlap};
 ghost use Rattle.geometry.specs.Lent.{spot, points, Here, Lent};
 ghost use Rattle.geometry.specs.Answers.{end_of, mark_of};
-ghost use Rattle.index_edge.specs.Edge.{edge as edgeBetween};
+ghost use Rattle.index_edge.specs.Edge.{edge as edge_between};
 ghost use Rattle.index_edge.specs.Number.{edge_of};
 ghost use Rattle.polygon.specs.Ring.{IsRing, next, at as entry};
 ghost use Rattle.intersection_set.specs.Within.{Proper};
@@ -109,7 +109,7 @@ pub fn overlaps(a: Segment, from: Seen, to: Seen) -> bool
 // The edge meets that from one point to another, an end that they share left out. Where they lie is read again: most edges are told without it.
 pub fn intersects(x: &[i32], y: &[i32], a: Segment, from: Seen, to: Seen) -> bool
     requires { Sight x.now y.now a from to }
-    ensures { result ≡ meet_edges (points x.now y.now) (edge_of a.edge) (edgeBetween from.id.0 to.id.0) }
+    ensures { result ≡ meet_edges (points x.now y.now) (edge_of a.edge) (edge_between from.id.0 to.id.0) }
 {
     if is_zero(from.turn) & is_zero(to.turn) {
         return overlaps(a, from, to);

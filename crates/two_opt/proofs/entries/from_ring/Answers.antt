@@ -3,7 +3,6 @@ use mathlib.Core.Path.{◌≡◌, sym, ◌∙◌, subst, refl}
 use mathlib.Core.Bool.{false}
 use Prim.Native.Nat.{ℕ, ◌-◌, ◌*◌, ◌≤◌, ◌<◌}
 use native.Mathlib.Omega.{arith}
-use borrow.Author.Rules.{rules}
 use lib.IntN.{ℤ}
 use lib.ListN.{length, get_or, take}
 use mathlib.Core.List.{List}
@@ -14,7 +13,7 @@ use Rattle.intersection_set.specs.Within.{Room}
 use Rattle.machine.specs.Answer.{refusal}
 use Rattle.two_opt.specs.Entry.{Loan, loan, record_sized, short_of}
 use Rattle.checks.proofs.Checking.{from_start}
-use Rattle.two_opt.proofs.Answering.{long_ring, long_records, part_length, exact_room, same_whole, ran_parts}
+use Rattle.two_opt.proofs.Answering.{long_ring, long_records, part_length, exact_room, ran_parts}
 use Rattle.two_opt.proofs.entries.from_ring.Goals as goal
 
 -- a size that check 2 has let pass is within each buffer of the records
@@ -41,8 +40,8 @@ slice_bounds-resolve-end c =
     omega (
       arith,
       long_ring a.n a.x.now a.y.now
-      (loan a.ring.now a.index.now (lent a.heads.now a.ends.now a.links.now a.dense.now a.reverse.now a.free.now))
-      c.requires.1,
+          (loan a.ring.now a.index.now (lent a.heads.now a.ends.now a.links.now a.dense.now a.reverse.now a.free.now))
+          c.requires.1,
     )
 
 pub slice_bounds-resolve-end-2 : goal.slice_bounds-resolve-end-2
@@ -51,8 +50,8 @@ slice_bounds-resolve-end-2 c =
     omega (
       arith,
       long_ring a.n a.x.now a.y.now
-      (loan a.ring.now a.index.now (lent a.heads.now a.ends.now a.links.now a.dense.now a.reverse.now a.free.now))
-      c.requires.1,
+          (loan a.ring.now a.index.now (lent a.heads.now a.ends.now a.links.now a.dense.now a.reverse.now a.free.now))
+          c.requires.1,
     )
 
 pub slice_bounds-resolve-end-3 : goal.slice_bounds-resolve-end-3
@@ -61,9 +60,9 @@ slice_bounds-resolve-end-3 c =
     omega (
       arith,
       within a.n c.record_size-size.result a.x.now a.y.now
-      (loan a.ring.now a.index.now (lent a.heads.now a.ends.now a.links.now a.dense.now a.reverse.now a.free.now))
-      c.requires.1
-      c.record_size-size.ensures,
+          (loan a.ring.now a.index.now (lent a.heads.now a.ends.now a.links.now a.dense.now a.reverse.now a.free.now))
+          c.requires.1
+          c.record_size-size.ensures,
     )
 
 pub slice_bounds-resolve-end-4 : goal.slice_bounds-resolve-end-4
@@ -72,9 +71,9 @@ slice_bounds-resolve-end-4 c =
     omega (
       arith,
       within a.n c.record_size-size.result a.x.now a.y.now
-      (loan a.ring.now a.index.now (lent a.heads.now a.ends.now a.links.now a.dense.now a.reverse.now a.free.now))
-      c.requires.1
-      c.record_size-size.ensures,
+          (loan a.ring.now a.index.now (lent a.heads.now a.ends.now a.links.now a.dense.now a.reverse.now a.free.now))
+          c.requires.1
+          c.record_size-size.ensures,
     )
 
 pub slice_bounds-resolve-end-5 : goal.slice_bounds-resolve-end-5
@@ -83,9 +82,9 @@ slice_bounds-resolve-end-5 c =
     omega (
       arith,
       within a.n c.record_size-size.result a.x.now a.y.now
-      (loan a.ring.now a.index.now (lent a.heads.now a.ends.now a.links.now a.dense.now a.reverse.now a.free.now))
-      c.requires.1
-      c.record_size-size.ensures,
+          (loan a.ring.now a.index.now (lent a.heads.now a.ends.now a.links.now a.dense.now a.reverse.now a.free.now))
+          c.requires.1
+          c.record_size-size.ensures,
     )
 
 pub slice_bounds-resolve-end-6 : goal.slice_bounds-resolve-end-6
@@ -94,9 +93,9 @@ slice_bounds-resolve-end-6 c =
     omega (
       arith,
       within a.n c.record_size-size.result a.x.now a.y.now
-      (loan a.ring.now a.index.now (lent a.heads.now a.ends.now a.links.now a.dense.now a.reverse.now a.free.now))
-      c.requires.1
-      c.record_size-size.ensures,
+          (loan a.ring.now a.index.now (lent a.heads.now a.ends.now a.links.now a.dense.now a.reverse.now a.free.now))
+          c.requires.1
+          c.record_size-size.ensures,
     )
 
 pub slice_bounds-resolve-end-7 : goal.slice_bounds-resolve-end-7
@@ -105,9 +104,9 @@ slice_bounds-resolve-end-7 c =
     omega (
       arith,
       within a.n c.record_size-size.result a.x.now a.y.now
-      (loan a.ring.now a.index.now (lent a.heads.now a.ends.now a.links.now a.dense.now a.reverse.now a.free.now))
-      c.requires.1
-      c.record_size-size.ensures,
+          (loan a.ring.now a.index.now (lent a.heads.now a.ends.now a.links.now a.dense.now a.reverse.now a.free.now))
+          c.requires.1
+          c.record_size-size.ensures,
     )
 
 pub slice_bounds-resolve-end-8 : goal.slice_bounds-resolve-end-8
@@ -116,9 +115,9 @@ slice_bounds-resolve-end-8 c =
     omega (
       arith,
       within a.n c.record_size-size.result a.x.now a.y.now
-      (loan a.ring.now a.index.now (lent a.heads.now a.ends.now a.links.now a.dense.now a.reverse.now a.free.now))
-      c.requires.1
-      c.record_size-size.ensures,
+          (loan a.ring.now a.index.now (lent a.heads.now a.ends.now a.links.now a.dense.now a.reverse.now a.free.now))
+          c.requires.1
+          c.record_size-size.ensures,
     )
 
 pub resolve-done-requires : goal.resolve-done-requires

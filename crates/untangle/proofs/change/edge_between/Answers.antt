@@ -1,6 +1,5 @@
 -- `edge_between` meets its contract: its two numbers are those at the positions.
 use mathlib.Core.Path.{◌∙◌, ap₂}
-use borrow.Author.Rules.{rules}
 use Rattle.index_edge.specs.Edge.{edge}
 use Rattle.untangle.proofs.change.edge_between.Goals as goal
 

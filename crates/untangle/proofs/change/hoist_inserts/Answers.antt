@@ -1,7 +1,6 @@
 -- `hoist_inserts` meets its contract: the edge that closes the gap, and the two through the kink.
 use mathlib.Core.Path.{◌≡◌, refl, ◌∙◌, ap, ap₂, subst⁻¹}
 use native.Mathlib.Omega.{arith}
-use borrow.Author.Rules.{rules}
 use Rattle.index_edge.specs.Edge.{edge}
 use Rattle.polygon.specs.Ring.{IsRing, at, next}
 use Rattle.polygon.specs.Place.{position}

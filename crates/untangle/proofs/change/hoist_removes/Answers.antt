@@ -1,7 +1,6 @@
 -- `hoist_removes` meets its contract: the edges before and behind the kink, and the edge itself.
 use mathlib.Core.Path.{◌∙◌, ap}
 use native.Mathlib.Omega.{arith}
-use borrow.Author.Rules.{rules}
 use Rattle.polygon.specs.Edges.{edge_at}
 use Rattle.polygon.specs.declared.position.Position.{Position}
 use Rattle.polygon.proofs.Positions.{prev_lt}

@@ -1,6 +1,5 @@
 -- `inserted_edges` meets its contract, by cases of the move.
 use mathlib.Core.Path.{◌∙◌}
-use borrow.Author.Rules.{rules}
 use Rattle.polygon.specs.Change.{lay}
 use Rattle.untangle.proofs.Changing.{uncross_asks, uncross_is, hoist_asks, hoist_is}
 use Rattle.untangle.proofs.change.inserted_edges.Goals as goal

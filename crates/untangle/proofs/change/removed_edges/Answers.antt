@@ -1,6 +1,5 @@
 -- `removed_edges` meets its contract, by cases of the move.
 use mathlib.Core.Path.{◌∙◌}
-use borrow.Author.Rules.{rules}
 use Rattle.polygon.specs.Change.{cut}
 use Rattle.untangle.proofs.Changing.{uncross_asks, uncross_is, hoist_asks, hoist_is}
 use Rattle.untangle.proofs.change.removed_edges.Goals as goal

@@ -1,6 +1,5 @@
 -- `turn_ring` meets its contract, by cases of the move: a reversal behind the first edge, or a point joined behind the edge's start.
 use mathlib.Core.Path.{◌∙◌, ap}
-use borrow.Author.Rules.{rules}
 use Rattle.polygon.specs.Ring.{index_of}
 use Rattle.untangle.proofs.Changing.{uncross_first, uncross_turns, uncross_turned, uncross_size, hoist_turns, hoist_turned}
 use Rattle.untangle.proofs.change.turn_ring.Goals as goal

@@ -1,7 +1,6 @@
 -- `uncross_inserts` meets its contract: the edges between the positions and between those one place on.
 use mathlib.Core.Path.{◌≡◌, ◌∙◌, ap, ap₂, subst⁻¹}
 use native.Mathlib.Omega.{arith}
-use borrow.Author.Rules.{rules}
 use Rattle.index_edge.specs.Edge.{edge}
 use Rattle.polygon.specs.Ring.{IsRing, at, next}
 use Rattle.polygon.specs.Place.{position}

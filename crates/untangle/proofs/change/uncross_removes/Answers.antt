@@ -1,7 +1,6 @@
 -- `uncross_removes` meets its contract: the two edges are those at the positions.
 use mathlib.Core.Path.{◌∙◌, ap}
 use native.Mathlib.Omega.{arith}
-use borrow.Author.Rules.{rules}
 use Rattle.polygon.specs.Edges.{edge_at}
 use Rattle.moves.proofs.RingPositions.{second_ring}
 use Rattle.untangle.proofs.Changing.{two}

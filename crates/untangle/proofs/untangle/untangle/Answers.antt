@@ -1,10 +1,10 @@
 -- `untangle` meets its contract: each call is one step of the machine's move, in the same order.
-use mathlib.Core.Path.{◌≡◌, ◌∙◌, ap, subst, subst⁻¹}
+use mathlib.Core.Path.{◌≡◌, ◌∙◌, ap, subst⁻¹}
 use lib.ListN.{length}
 use Rattle.geometry.specs.Lent.{points}
 use Rattle.index_edge.specs.Number.{edge_of}
 use Rattle.polygon.specs.Ring.{IsRing, index_of}
-use Rattle.polygon.specs.Edges.{edges, direct}
+use Rattle.polygon.specs.Edges.{direct}
 use Rattle.polygon.specs.Change.{cut, lay, turned, Fits}
 use Rattle.intersection_set.specs.Store.{removes}
 use Rattle.machine.specs.Search.{plan_at}
