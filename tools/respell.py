@@ -19,7 +19,7 @@ import sys
 GIVEN = {
     "eqE": "eq_edge", "ltE": "lt_edge", "memberE": "edge_in", "meetE": "meet_edges", "turnE": "turn_of_edge", "wayE": "way_of_edge", "pE": "point_edge",
     "eqP": "eq_point", "ltP": "lt_point", "maxP": "max_point", "minP": "min_point", "nearP": "near_point",
-    "eqR": "eq_record", "holdsR": "holds_record", "eqZ": "eq_int", "zeroZ": "zero_int", "addC": "add_const", "runW": "run_word", "sameB": "same_bit", "updH": "upd_head",
+    "eqR": "eq_record", "holdsR": "holds_rule", "eqZ": "eq_int", "ltZ": "lt_int", "lt-LeP": "lt_LeP", "getD": "get_or", "zeroZ": "zero_int", "addC": "add_const", "runW": "run_word", "sameB": "same_bit", "updH": "upd_head",
     "straightLine": "is_straight_line",
 }
 TOKEN = re.compile(r"[^\s(){}\[\],;.:«»]+|:|\.|«[^»]*»")

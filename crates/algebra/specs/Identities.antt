@@ -85,9 +85,9 @@ ZeroR ((e := f) ⇐ hs) = T (null (norm (e :- f :- comb hs)))
 abbrev pub HoldsR : Rule → List ℤ → Type 0
 HoldsR ((e := f) ⇐ hs) l = Imp (env l) hs (⟦ e ⟧ (env l) ≡ ⟦ f ⟧ (env l))
 
-holds_record : (r : Rule) → ZeroR r → (l : List ℤ) → HoldsR r l
-holds_record ((e := f) ⇐ hs) t l = lin e f l hs t
+holds_rule : (r : Rule) → ZeroR r → (l : List ℤ) → HoldsR r l
+holds_rule ((e := f) ⇐ hs) t l = lin e f l hs t
 
 -- an equation holds of all values for which the listed ones do
 pub follows : (ks : List Kind) (f : Fun ks Rule) → ZeroR (fill ks Rule f) → All ks (HoldsR (fill ks Rule f)) []
-follows ks f t = all ks (HoldsR (fill ks Rule f)) (holds_record (fill ks Rule f) t) []
+follows ks f t = all ks (HoldsR (fill ks Rule f)) (holds_rule (fill ks Rule f) t) []

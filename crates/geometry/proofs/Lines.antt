@@ -16,7 +16,7 @@ use Rattle.geometry.specs.Plane.{Point, turn, lt_point}
 use Rattle.geometry.specs.Segment.{way, Inside, inside}
 use Rattle.geometry.proofs.Turns.{turn_of_edge}
 use Rattle.geometry.proofs.Places.{way_of_edge, mir, turn_mir}
-use Rattle.geometry.proofs.Points.{lt_z_cases, below_is, is_below, lt_point_trans, lt_point_total, inside_if, inside_is}
+use Rattle.geometry.proofs.Points.{lt_int_cases, below_is, is_below, lt_point_trans, lt_point_total, inside_if, inside_is}
 
 pub gap_pos : (p q : ℤ) → p <ℤ q → pos 0 <ℤ (q -ℤ p)
 gap_pos p q h = omega (zarith, sub q p)
@@ -105,9 +105,9 @@ strictly d s u w v s> s< e lt =
     let d≥ : pos 0 ≤ℤ d = omega zarith in
     let p = mul_pos s> (gap_pos u w lt) in
     let q = mul_pos (gap_pos s d s<) (gap_pos u w lt) in (
-      both (lt_z_cases u v) (λ h. h.0)
+      both (lt_int_cases u v) (λ h. h.0)
           (λ h. let n = mul_nonneg d≥ (gap_le v u h.0) in let f = low d s u w v e in absurd (omega (zarith, add (d *ℤ (u -ℤ v)) (s *ℤ (w -ℤ u))))),
-      both (lt_z_cases v w) (λ h. h.0)
+      both (lt_int_cases v w) (λ h. h.0)
           (λ h. let n = mul_nonneg d≥ (gap_le w v h.0) in let f = high d s u w v e in absurd (omega (zarith, add (d *ℤ (v -ℤ w)) ((d -ℤ s) *ℤ (w -ℤ u))))),
     )
   where

@@ -254,8 +254,8 @@ module _ (a a' b b' : Point) (la : a.x <ℤ a'.x) (lb : b.x <ℤ b'.x) (le : b'.
 abbrev LeP : Point → Point → Type 0
 LeP a b = (a.x <ℤ b.x) ⊎ ((a.x ≡ b.x) × (a.y ≤ℤ b.y))
 
-lt_Le_p : (a b : Point) → lt_point a b ≡ true → LeP a b
-lt_Le_p a b h = both (below_is a b h) (λ g. inl g) (λ g. inr (g.0, <ℤ-le g.1))
+lt_LeP : (a b : Point) → lt_point a b ≡ true → LeP a b
+lt_LeP a b h = both (below_is a b h) (λ g. inl g) (λ g. inr (g.0, <ℤ-le g.1))
 
 x_le : (p q : Point) → LeP p q → p.x ≤ℤ q.x
 x_le p q h = both h <ℤ-le (λ g. (let e = g.0 in omega zarith))
@@ -302,7 +302,7 @@ module _ (a a' b b' : Point) (sa : lt_point a a' ≡ true) (sb : lt_point b b' �
     lesser e =
         both (true_or_false (lt_point a' b'))
         (λ t. let f : meets a a' b b' ≡ lt_point a a' = rw t at e in
-        (λ h. overlap a' (inr (refl, omega zarith)) (lt_Le_p a' b' t) (turn_second a a') on.s0 sa, λ m. f ∙ sa))
+        (λ h. overlap a' (inr (refl, omega zarith)) (lt_LeP a' b' t) (turn_second a a') on.s0 sa, λ m. f ∙ sa))
         (λ t. let f : meets a a' b b' ≡ lt_point a b' = rw t at e in (
           λ h. overlap b' (not_below a' b' t) (inr (refl, omega zarith)) on.q0 (turn_second b b') (sym f ∙ h),
           λ m. both (true_or_false (lt_point a b')) (λ g. f ∙ g) (λ g. absurd (beyond (not_below a b' g) m)),

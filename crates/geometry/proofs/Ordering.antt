@@ -12,7 +12,7 @@ use Rattle.algebra.specs.Cases.{both, true_or_false, never, and_left, and_right}
 use Rattle.geometry.specs.Plane.{Point, Before, near, lt_point, min_point, max_point}
 use Rattle.geometry.specs.Segment.{overlap}
 use Rattle.geometry.specs.Lent.{InRange, order_key}
-use Rattle.geometry.proofs.Points.{lt_z_cases, below_is, lt_point_trans, lt_point_total, lt_point_flip, not_below, lt_le, le_lt}
+use Rattle.geometry.proofs.Points.{lt_int_cases, below_is, lt_point_trans, lt_point_total, lt_point_flip, not_below, lt_le, le_lt}
 use Rattle.geometry.proofs.Reading.{abs_near}
 
 -- ---- the number
@@ -46,8 +46,8 @@ module _ (a b : Point) (ha : InRange a) (hb : InRange b) where
   pub key_lt : lt_z (order_key a) (order_key b) ≡ lt_point a b
   key_lt =
       both (true_or_false (lt_point a b))
-      (λ t. both (lt_z_cases (order_key a) (order_key b)) (λ h. h.1 ∙ sym t) (λ h. absurd (omega (arith, lt_down (key_less (below_is a b t)), le_down h.0))))
-      (λ f. both (lt_z_cases (order_key a) (order_key b)) (λ h. absurd (omega (arith, lt_down h.0, le_down (key_not (not_below a b f))))) (λ h. h.1 ∙ sym f))
+      (λ t. both (lt_int_cases (order_key a) (order_key b)) (λ h. h.1 ∙ sym t) (λ h. absurd (omega (arith, lt_down (key_less (below_is a b t)), le_down h.0))))
+      (λ f. both (lt_int_cases (order_key a) (order_key b)) (λ h. absurd (omega (arith, lt_down h.0, le_down (key_not (not_below a b f))))) (λ h. h.1 ∙ sym f))
 
 -- ---- segments on one line
 not_round : (p q s : Point) → lt_point p s ≡ false → (lt_point p q && lt_point q s) ≡ false

@@ -16,8 +16,8 @@ use Rattle.geometry.specs.Segment.{inside}
 use Rattle.algebra.specs.Cases.{both, true_or_false, never, and_left, and_right, is_T}
 
 -- ---- numbers
-pub lt_z_cases : (a b : ℤ) → ((a <ℤ b) × (lt_z a b ≡ true)) ⊎ ((b ≤ℤ a) × (lt_z a b ≡ false))
-lt_z_cases a b = go (lt_z a b) refl
+pub lt_int_cases : (a b : ℤ) → ((a <ℤ b) × (lt_z a b ≡ true)) ⊎ ((b ≤ℤ a) × (lt_z a b ≡ false))
+lt_int_cases a b = go (lt_z a b) refl
   where
     go : (t : Bool) → lt_z a b ≡ t → ((a <ℤ b) × (lt_z a b ≡ true)) ⊎ ((b ≤ℤ a) × (lt_z a b ≡ false))
     go true e = inl (record { lt = is_T (lt_z a b) e }, e)
@@ -63,19 +63,19 @@ eq_point_true a b t = both (eq_int_cases a.x b.x)
 
 pub below_is : (a b : Point) → lt_point a b ≡ true → Before a b
 below_is a b e =
-    both (lt_z_cases a.x b.x)
+    both (lt_int_cases a.x b.x)
     (λ h. inl h.0)
     (λ h. both (eq_int_cases a.x b.x)
-    (λ g. both (lt_z_cases a.y b.y) (λ k. inr (g.0, k.0)) (λ k. never (lt_point a b) e (rw (h.1, g.1, k.1))))
+    (λ g. both (lt_int_cases a.y b.y) (λ k. inr (g.0, k.0)) (λ k. never (lt_point a b) e (rw (h.1, g.1, k.1))))
     (λ g. never (lt_point a b) e (rw (h.1, g.1))))
 
 pub is_below : (a b : Point) → Before a b → lt_point a b ≡ true
 is_below a b h =
-    both (lt_z_cases a.x b.x)
+    both (lt_int_cases a.x b.x)
     (λ g. rw g.1)
     (λ g. both h (λ k. absurd (omega zarith))
     (λ k. both (eq_int_cases a.x b.x)
-    (λ f. both (lt_z_cases a.y b.y) (λ m. rw (g.1, f.1, m.1)) (λ m. absurd (omega zarith)))
+    (λ f. both (lt_int_cases a.y b.y) (λ m. rw (g.1, f.1, m.1)) (λ m. absurd (omega zarith)))
     (λ f. absurd (f.0 k.0))))
 
 pub lt_point_trans : (a b c : Point) → lt_point a b ≡ true → lt_point b c ≡ true → lt_point a c ≡ true
@@ -92,11 +92,11 @@ lt_point_irrefl a p = lt_point_not a a p p
 
 pub lt_point_total : (a b : Point) → a ≢ b → (lt_point a b ≡ true) ⊎ (lt_point b a ≡ true)
 lt_point_total a b ne =
-    both (lt_z_cases a.x b.x) (λ h. inl (is_below a b (inl h.0)))
-    (λ h. both (lt_z_cases b.x a.x) (λ g. inr (is_below b a (inl g.0)))
+    both (lt_int_cases a.x b.x) (λ h. inl (is_below a b (inl h.0)))
+    (λ h. both (lt_int_cases b.x a.x) (λ g. inr (is_below b a (inl g.0)))
     (λ g. let e : a.x ≡ b.x = omega zarith in
-    both (lt_z_cases a.y b.y) (λ k. inl (is_below a b (inr (e, k.0))))
-    (λ k. both (lt_z_cases b.y a.y) (λ m. inr (is_below b a (inr (sym e, m.0)))) (λ m. absurd (ne (point_eq a b e (omega zarith)))))))
+    both (lt_int_cases a.y b.y) (λ k. inl (is_below a b (inr (e, k.0))))
+    (λ k. both (lt_int_cases b.y a.y) (λ m. inr (is_below b a (inr (sym e, m.0)))) (λ m. absurd (ne (point_eq a b e (omega zarith)))))))
 
 pub lt_point_flip : (a b : Point) → lt_point a b ≡ true → lt_point b a ≡ false
 lt_point_flip a b h = both (true_or_false (lt_point b a)) (λ g. absurd (lt_point_not a b h g)) (λ g. g)
@@ -152,11 +152,11 @@ inside_is a b v h =
 -- ---- the greater of the lower ends is below the lesser of the upper ends
 pub not_below : (a b : Point) → lt_point a b ≡ false → (b.x <ℤ a.x) ⊎ ((b.x ≡ a.x) × (b.y ≤ℤ a.y))
 not_below a b e =
-    both (lt_z_cases a.x b.x)
+    both (lt_int_cases a.x b.x)
     (λ h. never (lt_point a b) (is_below a b (inl h.0)) e)
-    (λ h. both (lt_z_cases b.x a.x) (λ g. inl g.0)
+    (λ h. both (lt_int_cases b.x a.x) (λ g. inl g.0)
     (λ g. let q : a.x ≡ b.x = omega zarith in
-    both (lt_z_cases a.y b.y) (λ k. never (lt_point a b) (is_below a b (inr (q, k.0))) e) (λ k. inr (sym q, k.0))))
+    both (lt_int_cases a.y b.y) (λ k. never (lt_point a b) (is_below a b (inr (q, k.0))) e) (λ k. inr (sym q, k.0))))
 
 pub lt_le : (a b c : Point) → lt_point a b ≡ true → lt_point c b ≡ false → lt_point a c ≡ true
 lt_le a b c p q =

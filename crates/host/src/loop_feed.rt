@@ -14,6 +14,7 @@ pub struct TourFeed {
 }
 
 // The feed of the loop that the ring's first n entries name.
+#[tactic(auto, using(crate::proofs::Feeding::told_refused))]
 #[unsafe(no_mangle)]
 pub extern "C" fn tour_feed(n: usize, x: &[i32], y: &[i32], ring: &[u16]) -> TourFeed
     ensures { result ≡ feed_in_numbers (fed n x.now y.now ring.now) }

@@ -92,9 +92,9 @@ module _ (none : ℕ) (nx pv nx' pv' : ℕ → ℕ) where
     prev_of_lem [] p h z a d k e = d (sym e ∙ k.1)
     prev_of_lem (w ∷ l) p h z a d k e = prev_of_lem l w (nx w) z (later z w (l ++ x ∷ l₂) a) (λ u. differs z w (l ++ x ∷ l₂) a (sym u)) k.2 e
 
-    next_of : (l : List ℕ) (p h z : ℕ) → Absent z (l ++ x ∷ l₂) → z ≢ none → Linked none nx pv p h (l ++ x ∷ l₂) → nx x ≢ z
-    next_of (w ∷ l) p h z a d k e = next_of l w (nx w) z (later z w (l ++ x ∷ l₂) a) d k.2 e
-    next_of [] p h z a d k e = go l₂ (later z x l₂ a) k.2
+    next_of_lem : (l : List ℕ) (p h z : ℕ) → Absent z (l ++ x ∷ l₂) → z ≢ none → Linked none nx pv p h (l ++ x ∷ l₂) → nx x ≢ z
+    next_of_lem (w ∷ l) p h z a d k e = next_of_lem l w (nx w) z (later z w (l ++ x ∷ l₂) a) d k.2 e
+    next_of_lem [] p h z a d k e = go l₂ (later z x l₂ a) k.2
       where
         go : (m : List ℕ) → Absent z m → Linked none nx pv x (nx x) m → ⊥
         go [] b j = d (sym e ∙ j)
@@ -121,7 +121,7 @@ module _ (none : ℕ) (nx pv nx' pv' : ℕ → ℕ) where
         let zn : z ≢ none = differs none z (l ++ x ∷ l₂) an in
         let az : Absent z (l ++ x ∷ l₂) = once_head z (l ++ x ∷ l₂) o in (
           k.0,
-          pv-o z (λ u. next_of l z (nx z) z az zn k.2 (sym u)) ∙ k.1,
+          pv-o z (λ u. next_of_lem l z (nx z) z az zn k.2 (sym u)) ∙ k.1,
           rw (link zn l az k.2) (linked_out l z (nx z) (later none z (l ++ x ∷ l₂) an) az (once_later z (l ++ x ∷ l₂) o) k.2),
         )
       where

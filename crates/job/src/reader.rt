@@ -61,6 +61,7 @@ fn read_words(job: &[u8], start: usize, n: usize, picks: &mut [u32])
 
 // An area of `size` bytes starts before byte 20 or ends past the total. Start and size come from words of 32 bits, so
 // their sum in 64 does not wrap.
+#[tactic(auto, unfolding(crate::specs::Job::outside))]
 fn is_outside(start: usize, size: usize, total: usize) -> bool
     requires { start + size < 2 ^ 64 }
     ensures { result ≡ outside start size total }
@@ -91,6 +92,7 @@ fn shares_bytes(start: usize, size: usize, other: usize, extent: usize) -> bool
 
 // The checks behind that of the length, over the five words: the number of the first that fails, or 0. Check 3 is not made: a word is
 // less than 2³² micrometres, so its steps are always within the range.
+#[tactic(auto, unfolding(crate::specs::Job::decide))]
 fn check_words(
     len: usize,
     points: usize,
@@ -161,6 +163,7 @@ fn refusal(job: &[u8], nx: usize, ny: usize, np: usize) -> u8
 }
 
 // Reads a job: the refusals in order, and only then the steps and the picks.
+#[tactic(auto, using(crate::proofs::Refusals::accepted_job))]
 pub fn read_job(job: &[u8], x: &mut [i32], y: &mut [i32], picks: &mut [u32]) -> Outcome
     ensures { Reading job.now x.old y.old picks.old result x.new y.new picks.new }
 {

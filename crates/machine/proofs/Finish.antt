@@ -12,7 +12,7 @@ use Rattle.algebra.specs.Polynomials.{neg}
 use Rattle.algebra.specs.Identities.{ident, pair, ◌:=◌}
 use Rattle.geometry.proofs.Turns.{turn_of_edge}
 use Rattle.geometry.specs.Plane.{Point, turn, lt_point}
-use Rattle.geometry.proofs.Points.{is_below, below_is, lt_z_cases, lt_point_trans, lt_point_not, lt_point_total, zero_is}
+use Rattle.geometry.proofs.Points.{is_below, below_is, lt_int_cases, lt_point_trans, lt_point_not, lt_point_total, zero_is}
 use Rattle.index_edge.specs.Edge.{Edge, edge_in}
 use Rattle.polygon.specs.Ring.{next, prev, turned_round, IsRing}
 use Rattle.polygon.specs.Edges.{edges}
@@ -106,8 +106,8 @@ module _ (n : ℕ) (pt : ℕ → Point) (r : List ℕ) (some : 0 < n) (ring : Is
     finish_is = record {
       least = m;
       is_least = least_found n pt r apart some;
-      clockwise = λ h. both (lt_z_cases (turn_at n pt r m) (pos 0)) (λ g. rw g.1) (λ g. absurd (omega zarith));
-      counter = λ h. both (lt_z_cases (turn_at n pt r m) (pos 0)) (λ g. absurd (omega zarith)) (λ g. rw g.1);
+      clockwise = λ h. both (lt_int_cases (turn_at n pt r m) (pos 0)) (λ g. rw g.1) (λ g. absurd (omega zarith));
+      counter = λ h. both (lt_int_cases (turn_at n pt r m) (pos 0)) (λ g. absurd (omega zarith)) (λ g. rw g.1);
       corner = nz;
     }
 
@@ -115,7 +115,7 @@ module _ (n : ℕ) (pt : ℕ → Point) (r : List ℕ) (some : 0 < n) (ring : Is
     pub finish_turn : (i : ℕ) × Least n pt (finish n pt r) i × (pos 0 <ℤ turn_at n pt (finish n pt r) i)
     finish_turn =
         let le = least_found n pt r apart some in
-        both (lt_z_cases (turn_at n pt r m) (pos 0))
+        both (lt_int_cases (turn_at n pt r m) (pos 0))
         (λ h. let lw = whole_lt n some m le.within in
         let e : turn_at n pt (turned_round n r) (whole n some m) ≡ neg_ℤ (turn_at n pt r m) = back_turn n some r pt (whole n some m) lw ∙ ap (λ j. neg_ℤ (turn_at n pt r j)) (whole_whole n some m le.within) in
         rw h.1 (whole n some m, back_least n some r pt m le, rw e (flipped (turn_at n pt r m) h.0)))
@@ -125,4 +125,4 @@ module _ (n : ℕ) (pt : ℕ → Point) (r : List ℕ) (some : 0 < n) (ring : Is
         flipped z h = omega (zarith, opp z)
 
         positive : (z : ℤ) → pos 0 ≤ℤ z → z ≢ pos 0 → pos 0 <ℤ z
-        positive z h ne = both (lt_z_cases (pos 0) z) (λ g. g.0) (λ g. absurd (ne (omega zarith)))
+        positive z h ne = both (lt_int_cases (pos 0) z) (λ g. g.0) (λ g. absurd (ne (omega zarith)))

@@ -51,16 +51,6 @@ fn parallel_edges(x: &[i32], y: &[i32], ring: &[u16], a: Position, b: Position) 
     (turn_at(x, y, a1, a2, b1) == 0) & (turn_at(x, y, a1, a2, b2) == 0)
 }
 
-// No call reaches this: the contract asks for what never holds.
-fn unreached() -> Move
-    requires { ⊥ }
-{
-    Move::Uncross {
-        from: PositionId(0),
-        to: PositionId(0),
-    }
-}
-
 // The hoist for two edges that meet on one line. There is always a kink that an edge holds.
 fn hoist(x: &[i32], y: &[i32], ring: &[u16], da: Position, db: Position) -> Move
     requires { RingOver da.size x.now y.now ring.now × Board da.size (points x.now y.now) × Both da db × Folded da.size (points x.now y.now) ring.now da.id.0 db.id.0 }
@@ -68,7 +58,7 @@ fn hoist(x: &[i32], y: &[i32], ring: &[u16], da: Position, db: Position) -> Move
 {
     let mergable = kink_and_edge(x, y, ring, da, db);
     let Mergable::Found { kink, edge } = mergable else {
-        return unreached();
+        unreachable!();
     };
     Move::Hoist { kink, edge }
 }

@@ -38,10 +38,10 @@ use Rattle.sweeps.proofs.Sweeping.{proper_at}
 use Rattle.untangle.specs.Running.{state_after, Running, Picked}
 
 -- ---- edges of a list
-pub get_d_member : (l : List Edge) (i : ℕ) → i < length l → edge_in (get_or l i nowhere) l ≡ true
-get_d_member [] i h = absurd (omega arith)
-get_d_member (e ∷ l) zero h = member_here e e l refl
-get_d_member (e ∷ l) (suc i) h = member_there (get_or l i nowhere) e l (get_d_member l i (omega arith))
+pub get_or_member : (l : List Edge) (i : ℕ) → i < length l → edge_in (get_or l i nowhere) l ≡ true
+get_or_member [] i h = absurd (omega arith)
+get_or_member (e ∷ l) zero h = member_here e e l refl
+get_or_member (e ∷ l) (suc i) h = member_there (get_or l i nowhere) e l (get_or_member l i (omega arith))
 
 -- the edges that a plan cuts are edges of the ring
 cut_proper : (n : ℕ) (m : Plan) (r : List ℕ) → Fits n m → IsRing n r → 2 ≤ n → AllProper n (cut n m r)
@@ -107,7 +107,7 @@ module _ (n : ℕ) (pt : ℕ → Point) (board : Board n pt) (s : State) (ready 
     lay_proper : AllProper n (lay n plan ring)
     lay_proper i h =
         let e = get_or (lay n plan ring) i nowhere in
-        let m : edge_in e (edges n (turned n plan ring)) ≡ true = good.after e ∙ or_right (edge_in e (edges n ring) && not (edge_in e (cut n plan ring))) (edge_in e (lay n plan ring)) (get_d_member (lay n plan ring) i h) in
+        let m : edge_in e (edges n (turned n plan ring)) ≡ true = good.after e ∙ or_right (edge_in e (edges n ring) && not (edge_in e (cut n plan ring))) (edge_in e (lay n plan ring)) (get_or_member (lay n plan ring) i h) in
         let (j, lj, p) = member_edge n (turned n plan ring) e m in
         subst (Proper n) p (proper_at next_ring two j lj)
 

@@ -4,11 +4,8 @@ use Rattle.moves.proofs.KinkSearch.{never_nothing}
 use Rattle.moves.proofs.PlanParts.{plan_hoist}
 use Rattle.moves.proofs.plan.hoist.Goals as goal
 
-pub unreached-requires : goal.unreached-requires
-unreached-requires c = let p = c.requires in never_nothing p.0.ring p.1 p.2 p.3 c.in_default.is c.kink_and_edge-mergable.ensures
-
-pub returns-in_default : goal.returns-in_default
-returns-in_default c = let p = c.requires in absurd (never_nothing p.0.ring p.1 p.2 p.3 c.in_default.is c.kink_and_edge-mergable.ensures)
+pub unreachable-requires : goal.unreachable-requires
+unreachable-requires c = let p = c.requires in never_nothing p.0.ring p.1 p.2 p.3 c.in_default.is c.kink_and_edge-mergable.ensures
 
 pub returns : goal.returns
 returns c =
