@@ -22,7 +22,7 @@ use Rattle.resolve.specs.Ended.{Counted, last_ring, Ended}
 use Rattle.checks.specs.Checks.{any_below, short}
 use Rattle.two_opt.specs.Entry.{answer_of, Loan, loan, each, front, past, ring_sized, record_sized, short_of, Holding, Ran, Entry}
 use Rattle.two_opt.specs.declared.entries.Answer.{Answer as Answered}
-use Rattle.checks.proofs.Checking.{from_start, long}
+use Rattle.checks.proofs.Checking.{from_start, long, same_refusal}
 
 -- ---- a call that is refused
 pub refused_entry : (n : ℕ) (x y : List ℤ) (r cs : List ℕ) (l : Loan) {k : ℕ} → k ≡ refusal n (points x y) (short_of n x y l) r → 0 < k → Entry n x y r cs l l (refused k)
@@ -82,6 +82,32 @@ module _ (n : ℕ) (x y : List ℤ) (s : Bool) (r : List ℕ) (ok : refusal n (p
     nx = λ i l. and_left (near (coord x i)) (near (coord y i)) (accepts.range i l);
     ny = λ i l. and_right (near (coord x i)) (near (coord y i)) (accepts.range i l);
   }
+
+-- both entries: the number that the code answers is the definition's, and what holds of what was lent where it is 0
+pub number_is : (n : ℕ) (x y : List ℤ) (l : Loan) (r : List ℕ) {k : ℕ} {s : Bool} → (n ≤ 256 → s ≡ short_of n x y l) → k ≡ refusal n (points x y) s r
+    → k ≡ refusal n (points x y) (short_of n x y l) r
+number_is n x y l r {s = s} h e = e ∙ same_refusal n (points x y) s (short_of n x y l) r h
+
+pub record Passing (n : ℕ) (x y : List ℤ) (l : Loan) (r : List ℕ) : Type 0 where
+  pub ok : refusal n (points x y) (short_of n x y l) r ≡ 0
+  pub accepted : Accepted n (points x y) (short_of n x y l) r
+  pub long : (n ≤ length x) × (n ≤ length y) × (n ≤ length l.ring) × (n ≤ length l.index)
+  pub ring_part : length (take (n - 0) l.ring) ≡ n
+  pub index_part : length (take (n - 0) l.index) ≡ n
+
+pub passing : (n : ℕ) (x y : List ℤ) (l : Loan) (r : List ℕ) {k : ℕ} {s : Bool} → (n ≤ 256 → s ≡ short_of n x y l) → k ≡ refusal n (points x y) s r → k ≡ 0
+    → Passing n x y l r
+passing n x y l r h e z =
+    let no : refusal n (points x y) (short_of n x y l) r ≡ 0 = sym (number_is n x y l r h e) ∙ z in
+    let a = accepts n x y (short_of n x y l) r no in
+    let long = long_ring n x y l a.long in
+    record {
+      ok = no;
+      accepted = a;
+      long = long;
+      ring_part = part_length n l.ring refl long.2;
+      index_part = part_length n l.index refl long.3;
+    }
 
 -- the answer of a run, by its counts
 module _ (n : ℕ) (pt : ℕ → Point) (r cs : List ℕ) where

@@ -1,129 +1,92 @@
 -- `resolve_self_intersections` meets its contract: a refused call writes nothing, any other is a run from the lent ring.
 use mathlib.Core.Path.{◌≡◌, refl, sym, ap, ◌∙◌, subst⁻¹}
-use mathlib.Core.Bool.{Bool, false}
 use mathlib.Core.List.{List, ◌++◌}
-use Prim.Native.Nat.{ℕ, ◌-◌, ◌*◌, ◌≤◌}
+use Prim.Native.Nat.{ℕ, ◌-◌, ◌*◌}
 use native.Mathlib.Omega.{arith}
 use lib.ListN.{length, take, drop}
-use Rattle.geometry.specs.Plane.{Point}
-use Rattle.geometry.specs.Lent.{points}
 use Rattle.polygon.specs.Ring.{IsRing, index_of}
 use Rattle.intersection_set.specs.Pool.{lent}
-use Rattle.machine.specs.Answer.{refusal}
 use Rattle.two_opt.specs.Entry.{Loan, loan, each, past, short_of}
-use Rattle.checks.proofs.Checking.{same_refusal, from_start}
-use Rattle.two_opt.proofs.Answering.{refused_entry, long_ring, part_length, take_part, past_part, same_whole, accepts, runs, run_lent, same_short, ran_entry}
+use Rattle.checks.proofs.Checking.{from_start}
+use Rattle.two_opt.proofs.Answering.{refused_entry, number_is, passing, long_ring, take_part, past_part, same_whole, runs, run_lent, same_short, ran_entry}
 use Rattle.two_opt.proofs.entries.resolve_self_intersections.Goals as goal
 
 pub refusal_of_ring-number-requires : goal.refusal_of_ring-number-requires
 refusal_of_ring-number-requires c =
-    let given : Loan = let a = c.args in
-    loan a.ring.now a.index.now (lent a.heads.now a.ends.now a.links.now a.dense.now a.reverse.now a.free.now) in
-    let is_short : Bool = short_of c.args.n c.args.x.now c.args.y.now given in
-    let long_at : is_short ≡ false → (c.args.n ≤ length c.args.x.now) × (c.args.n ≤ length c.args.y.now) × (c.args.n ≤ length c.args.ring.now) × (c.args.n ≤ length c.args.index.now) = long_ring c.args.n c.args.x.now c.args.y.now given in
-    λ h e. (let l = long_at (sym (c.too_short-short.ensures h) ∙ e) in (l.0, l.1, l.2))
+    let a = c.args in
+    let given : Loan = loan a.ring.now a.index.now (lent a.heads.now a.ends.now a.links.now a.dense.now a.reverse.now a.free.now) in
+    λ h e. (let l = long_ring a.n a.x.now a.y.now given (sym (c.too_short-short.ensures h) ∙ e) in (l.0, l.1, l.2))
 
 pub returns-then-number-gt0 : goal.returns-then-number-gt0
 returns-then-number-gt0 c =
-    let given : Loan = let a = c.args in
-    loan a.ring.now a.index.now (lent a.heads.now a.ends.now a.links.now a.dense.now a.reverse.now a.free.now) in
-    let first : List ℕ = take c.args.n c.args.ring.now in
-    let board : ℕ → Point = points c.args.x.now c.args.y.now in
-    let is_short : Bool = short_of c.args.n c.args.x.now c.args.y.now given in
-    let is_refusal : c.refusal_of_ring-number.result ≡ refusal c.args.n board is_short first = c.refusal_of_ring-number.ensures ∙ same_refusal c.args.n board c.too_short-short.result is_short first c.too_short-short.ensures in
-    refused_entry c.args.n c.args.x.now c.args.y.now first c.args.picks.now given is_refusal c.if-number-gt0.true
+    let a = c.args in
+    let given : Loan = loan a.ring.now a.index.now (lent a.heads.now a.ends.now a.links.now a.dense.now a.reverse.now a.free.now) in
+    let first : List ℕ = take a.n a.ring.now in
+    refused_entry a.n a.x.now a.y.now first a.picks.now given (number_is a.n a.x.now a.y.now given first c.too_short-short.ensures c.refusal_of_ring-number.ensures) c.if-number-gt0.true
 
 pub slice_bounds-rebuild_index-end : goal.slice_bounds-rebuild_index-end
 slice_bounds-rebuild_index-end c =
-    let given : Loan = let a = c.args in
-    loan a.ring.now a.index.now (lent a.heads.now a.ends.now a.links.now a.dense.now a.reverse.now a.free.now) in
-    let first : List ℕ = take c.args.n c.args.ring.now in
-    let board : ℕ → Point = points c.args.x.now c.args.y.now in
-    let is_short : Bool = short_of c.args.n c.args.x.now c.args.y.now given in
-    let long_at : is_short ≡ false → (c.args.n ≤ length c.args.x.now) × (c.args.n ≤ length c.args.y.now) × (c.args.n ≤ length c.args.ring.now) × (c.args.n ≤ length c.args.index.now) = long_ring c.args.n c.args.x.now c.args.y.now given in
-    let is_refusal : c.refusal_of_ring-number.result ≡ refusal c.args.n board is_short first = c.refusal_of_ring-number.ensures ∙ same_refusal c.args.n board c.too_short-short.result is_short first c.too_short-short.ensures in
-    let passes : refusal c.args.n board is_short first ≡ 0 = sym is_refusal ∙ omega (arith, c.if-number-gt0.false) in
-    let enough : is_short ≡ false = (accepts c.args.n c.args.x.now c.args.y.now is_short first passes).long in
-    (long_at enough).2
+    let a = c.args in
+    let given : Loan = loan a.ring.now a.index.now (lent a.heads.now a.ends.now a.links.now a.dense.now a.reverse.now a.free.now) in
+    let first : List ℕ = take a.n a.ring.now in
+    let p = passing a.n a.x.now a.y.now given first c.too_short-short.ensures c.refusal_of_ring-number.ensures (omega arith) in
+    p.long.2
 
 pub slice_bounds-rebuild_index-end-2 : goal.slice_bounds-rebuild_index-end-2
 slice_bounds-rebuild_index-end-2 c =
-    let given : Loan = let a = c.args in
-    loan a.ring.now a.index.now (lent a.heads.now a.ends.now a.links.now a.dense.now a.reverse.now a.free.now) in
-    let first : List ℕ = take c.args.n c.args.ring.now in
-    let board : ℕ → Point = points c.args.x.now c.args.y.now in
-    let is_short : Bool = short_of c.args.n c.args.x.now c.args.y.now given in
-    let long_at : is_short ≡ false → (c.args.n ≤ length c.args.x.now) × (c.args.n ≤ length c.args.y.now) × (c.args.n ≤ length c.args.ring.now) × (c.args.n ≤ length c.args.index.now) = long_ring c.args.n c.args.x.now c.args.y.now given in
-    let is_refusal : c.refusal_of_ring-number.result ≡ refusal c.args.n board is_short first = c.refusal_of_ring-number.ensures ∙ same_refusal c.args.n board c.too_short-short.result is_short first c.too_short-short.ensures in
-    let passes : refusal c.args.n board is_short first ≡ 0 = sym is_refusal ∙ omega (arith, c.if-number-gt0.false) in
-    let enough : is_short ≡ false = (accepts c.args.n c.args.x.now c.args.y.now is_short first passes).long in
-    (long_at enough).3
+    let a = c.args in
+    let given : Loan = loan a.ring.now a.index.now (lent a.heads.now a.ends.now a.links.now a.dense.now a.reverse.now a.free.now) in
+    let first : List ℕ = take a.n a.ring.now in
+    let p = passing a.n a.x.now a.y.now given first c.too_short-short.ensures c.refusal_of_ring-number.ensures (omega arith) in
+    p.long.3
 
 pub rebuild_index-requires : goal.rebuild_index-requires
 rebuild_index-requires c =
-    let given : Loan = let a = c.args in
-    loan a.ring.now a.index.now (lent a.heads.now a.ends.now a.links.now a.dense.now a.reverse.now a.free.now) in
-    let first : List ℕ = take c.args.n c.args.ring.now in
-    let board : ℕ → Point = points c.args.x.now c.args.y.now in
-    let is_short : Bool = short_of c.args.n c.args.x.now c.args.y.now given in
-    let long_at : is_short ≡ false → (c.args.n ≤ length c.args.x.now) × (c.args.n ≤ length c.args.y.now) × (c.args.n ≤ length c.args.ring.now) × (c.args.n ≤ length c.args.index.now) = long_ring c.args.n c.args.x.now c.args.y.now given in
-    let is_refusal : c.refusal_of_ring-number.result ≡ refusal c.args.n board is_short first = c.refusal_of_ring-number.ensures ∙ same_refusal c.args.n board c.too_short-short.result is_short first c.too_short-short.ensures in
-    let passes : refusal c.args.n board is_short first ≡ 0 = sym is_refusal ∙ omega (arith, c.if-number-gt0.false) in
-    let enough : is_short ≡ false = (accepts c.args.n c.args.x.now c.args.y.now is_short first passes).long in
-    let ring_part : IsRing c.args.n (take (c.args.n - 0) c.args.ring.now) = subst⁻¹ (λ k. IsRing c.args.n (take k c.args.ring.now)) (from_start c.args.n) (accepts c.args.n c.args.x.now c.args.y.now is_short first passes).ring in
-    let index_part_lem : length (take (c.args.n - 0) c.args.index.now) ≡ c.args.n = part_length c.args.n c.args.index.now refl (long_at enough).3 in
+    let a = c.args in
+    let given : Loan = loan a.ring.now a.index.now (lent a.heads.now a.ends.now a.links.now a.dense.now a.reverse.now a.free.now) in
+    let first : List ℕ = take a.n a.ring.now in
+    let p = passing a.n a.x.now a.y.now given first c.too_short-short.ensures c.refusal_of_ring-number.ensures (omega arith) in
+    let ring_part : IsRing a.n (take (a.n - 0) a.ring.now) = subst⁻¹ (λ k. IsRing a.n (take k a.ring.now)) (from_start a.n) p.accepted.ring in
     let w = ring_part in
-    let few = (accepts c.args.n c.args.x.now c.args.y.now is_short first passes).few in
-    (rw w.len w, omega (arith, w.len, few), index_part_lem ∙ sym w.len)
+    let few = p.accepted.few in
+    (rw w.len w, omega (arith, w.len, few), p.index_part ∙ sym w.len)
 
 pub from_ring-requires : goal.from_ring-requires
 from_ring-requires c =
-    let given : Loan = let a = c.args in
-    loan a.ring.now a.index.now (lent a.heads.now a.ends.now a.links.now a.dense.now a.reverse.now a.free.now) in
-    let first : List ℕ = take c.args.n c.args.ring.now in
-    let board : ℕ → Point = points c.args.x.now c.args.y.now in
-    let is_short : Bool = short_of c.args.n c.args.x.now c.args.y.now given in
-    let long_at : is_short ≡ false → (c.args.n ≤ length c.args.x.now) × (c.args.n ≤ length c.args.y.now) × (c.args.n ≤ length c.args.ring.now) × (c.args.n ≤ length c.args.index.now) = long_ring c.args.n c.args.x.now c.args.y.now given in
-    let is_refusal : c.refusal_of_ring-number.result ≡ refusal c.args.n board is_short first = c.refusal_of_ring-number.ensures ∙ same_refusal c.args.n board c.too_short-short.result is_short first c.too_short-short.ensures in
-    let passes : refusal c.args.n board is_short first ≡ 0 = sym is_refusal ∙ omega (arith, c.if-number-gt0.false) in
-    let enough : is_short ≡ false = (accepts c.args.n c.args.x.now c.args.y.now is_short first passes).long in
-    let ring_part : IsRing c.args.n (take (c.args.n - 0) c.args.ring.now) = subst⁻¹ (λ k. IsRing c.args.n (take k c.args.ring.now)) (from_start c.args.n) (accepts c.args.n c.args.x.now c.args.y.now is_short first passes).ring in
-    let index_part_lem : length (take (c.args.n - 0) c.args.index.now) ≡ c.args.n = part_length c.args.n c.args.index.now refl (long_at enough).3 in
-    let wrote_index : length c.rebuild_index.new.index ≡ c.args.n = c.rebuild_index.auto.index ∙ index_part_lem in
-    let handed : Loan = loan c.args.ring.now (c.rebuild_index.new.index ++ drop (c.args.n - 0) c.args.index.now) given.records in
-    let long_index_now : length handed.index ≡ length given.index = same_whole c.args.n c.rebuild_index.new.index c.args.index.now refl wrote_index (long_at enough).3 in
-    let inverse : let n = c.args.n in take n handed.index ≡ index_of n (take n handed.ring) = let n = c.args.n in
-    let r = c.args.ring.now in
-    take_part n c.rebuild_index.new.index (drop (n - 0) c.args.index.now) wrote_index
+    let a = c.args in
+    let given : Loan = loan a.ring.now a.index.now (lent a.heads.now a.ends.now a.links.now a.dense.now a.reverse.now a.free.now) in
+    let first : List ℕ = take a.n a.ring.now in
+    let p = passing a.n a.x.now a.y.now given first c.too_short-short.ensures c.refusal_of_ring-number.ensures (omega arith) in
+    let ring_part : IsRing a.n (take (a.n - 0) a.ring.now) = subst⁻¹ (λ k. IsRing a.n (take k a.ring.now)) (from_start a.n) p.accepted.ring in
+    let wrote_index : length c.rebuild_index.new.index ≡ a.n = c.rebuild_index.auto.index ∙ p.index_part in
+    let handed : Loan = loan a.ring.now (c.rebuild_index.new.index ++ drop (a.n - 0) a.index.now) given.records in
+    let long_index_now : length handed.index ≡ length given.index = same_whole a.n c.rebuild_index.new.index a.index.now refl wrote_index p.long.3 in
+    let inverse : let n = a.n in take n handed.index ≡ index_of n (take n handed.ring) = let n = a.n in
+    let r = a.ring.now in
+    take_part n c.rebuild_index.new.index (drop (n - 0) a.index.now) wrote_index
     ∙ c.rebuild_index.ensures
     ∙ ap (λ k. index_of k (take (n - 0) r)) ring_part.len
     ∙ ap (λ k. index_of n (take k r)) (from_start n) in
-    let n = c.args.n in
-    let x = c.args.x.now in
-    let y = c.args.y.now in
-    let ok = passes in
-    let l = long_at enough in (
-      run_lent n x y is_short first ok l.0 l.1,
-      same_short n x y given handed refl long_index_now refl ∙ enough,
-      runs n x y is_short first ok,
+    let n = a.n in
+    let x = a.x.now in
+    let y = a.y.now in
+    let ok = p.ok in
+    let l = p.long in (
+      run_lent n x y (short_of a.n a.x.now a.y.now given) first ok l.0 l.1,
+      same_short n x y given handed refl long_index_now refl ∙ p.accepted.long,
+      runs n x y (short_of a.n a.x.now a.y.now given) first ok,
       inverse,
     )
 
 pub returns : goal.returns
 returns c =
-    let given : Loan = let a = c.args in
-    loan a.ring.now a.index.now (lent a.heads.now a.ends.now a.links.now a.dense.now a.reverse.now a.free.now) in
-    let first : List ℕ = take c.args.n c.args.ring.now in
-    let board : ℕ → Point = points c.args.x.now c.args.y.now in
-    let is_short : Bool = short_of c.args.n c.args.x.now c.args.y.now given in
-    let long_at : is_short ≡ false → (c.args.n ≤ length c.args.x.now) × (c.args.n ≤ length c.args.y.now) × (c.args.n ≤ length c.args.ring.now) × (c.args.n ≤ length c.args.index.now) = long_ring c.args.n c.args.x.now c.args.y.now given in
-    let is_refusal : c.refusal_of_ring-number.result ≡ refusal c.args.n board is_short first = c.refusal_of_ring-number.ensures ∙ same_refusal c.args.n board c.too_short-short.result is_short first c.too_short-short.ensures in
-    let passes : refusal c.args.n board is_short first ≡ 0 = sym is_refusal ∙ omega (arith, c.if-number-gt0.false) in
-    let enough : is_short ≡ false = (accepts c.args.n c.args.x.now c.args.y.now is_short first passes).long in
-    let index_part_lem : length (take (c.args.n - 0) c.args.index.now) ≡ c.args.n = part_length c.args.n c.args.index.now refl (long_at enough).3 in
-    let wrote_index : length c.rebuild_index.new.index ≡ c.args.n = c.rebuild_index.auto.index ∙ index_part_lem in
-    let handed : Loan = loan c.args.ring.now (c.rebuild_index.new.index ++ drop (c.args.n - 0) c.args.index.now) given.records in
-    let n = c.args.n in
+    let a = c.args in
+    let given : Loan = loan a.ring.now a.index.now (lent a.heads.now a.ends.now a.links.now a.dense.now a.reverse.now a.free.now) in
+    let first : List ℕ = take a.n a.ring.now in
+    let p = passing a.n a.x.now a.y.now given first c.too_short-short.ensures c.refusal_of_ring-number.ensures (omega arith) in
+    let wrote_index : length c.rebuild_index.new.index ≡ a.n = c.rebuild_index.auto.index ∙ p.index_part in
+    let handed : Loan = loan a.ring.now (c.rebuild_index.new.index ++ drop (a.n - 0) a.index.now) given.records in
+    let n = a.n in
     let same-past : past n handed ≡ past n given
-    = λ j. loan (drop n c.args.ring.now) (past_part n c.rebuild_index.new.index c.args.index.now refl wrote_index j) (each (drop (n * (n - 1))) given.records) in
-    ran_entry n c.args.x.now c.args.y.now first c.args.picks.now given handed passes refl same-past c.from_ring.ensures
+    = λ j. loan (drop n a.ring.now) (past_part n c.rebuild_index.new.index a.index.now refl wrote_index j) (each (drop (n * (n - 1))) given.records) in
+    ran_entry n a.x.now a.y.now first a.picks.now given handed p.ok refl same-past c.from_ring.ensures
