@@ -145,6 +145,13 @@ module _ {n : ℕ} {pt : ℕ → Point} {s : State} {cs ring' index : List ℕ} 
   same_plan : the_plan ≡ plan n pt run.board s run.ready cs c pick.some
   same_plan = λ i. plan_at n pt (run.same_ring i) (direct n (run.same_ring i) (pick.first i)) (direct n (run.same_ring i) (pick.second i))
 
+  -- what the code does with the list's length the definition does with n: it finds the same plan, and cuts, lays and turns the same
+  pub planned : {q : Plan} → q ≡ plan_at (length ring') pt ring' (direct (length ring') ring' e) (direct (length ring') ring' f) → q ≡ the_plan
+  planned h = h ∙ ap (λ k. plan_at k pt ring' (direct k ring' e) (direct k ring' f)) the_ring.len
+
+  pub at_plan : {A : Type 0} (g : ℕ → Plan → List ℕ → A) {v : A} {q : Plan} → v ≡ g (length ring') q ring' → q ≡ the_plan → v ≡ g n the_plan ring'
+  at_plan g h i = h ∙ (λ j. g (the_ring.len j) (i j) ring')
+
   pub plan_fits_ring : Fits n the_plan
   plan_fits_ring = rw same_plan (fits n pt run.board s run.ready cs c pick.some)
 
