@@ -18,6 +18,7 @@ pub mod Crossing
 pub mod Containing
 pub mod Meeting
 pub mod Height
+pub mod Derived
 pub mod Reading
 pub mod Distances
 pub mod Ordering

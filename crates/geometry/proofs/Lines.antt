@@ -11,12 +11,12 @@ use Rattle.algebra.specs.Polynomials.{lit, ◌:+◌, ◌:-◌, ◌:*◌, neg, hy
 use Rattle.algebra.specs.Identities.{ident, follows, num, pair, ◌:=◌, ◌⇐◌}
 use Rattle.algebra.specs.Order.{mul_pos, mul_nonneg}
 use Rattle.algebra.specs.Signs.{no_zero}
-use Rattle.algebra.specs.Cases.{both}
-use Rattle.geometry.specs.Plane.{Point, turn, lt_point}
+use Rattle.algebra.specs.Cases.{both, same_test}
+use Rattle.geometry.specs.Plane.{Point, turn, collinear, lt_point}
 use Rattle.geometry.specs.Segment.{way, Inside, inside}
 use Rattle.geometry.proofs.Turns.{turn_of_edge}
 use Rattle.geometry.proofs.Places.{way_of_edge, mir, turn_mir}
-use Rattle.geometry.proofs.Points.{lt_int_cases, below_is, is_below, lt_point_trans, lt_point_total, inside_if, inside_is}
+use Rattle.geometry.proofs.Points.{zero_yes, zero_is, turn_back, lt_int_cases, below_is, is_below, lt_point_trans, lt_point_total, inside_if, inside_is}
 
 pub gap_pos : (p q : ℤ) → p <ℤ q → pos 0 <ℤ (q -ℤ p)
 gap_pos p q h = omega (zarith, sub q p)
@@ -146,3 +146,10 @@ inside_decides a b v ne = (
   where
     back : turn a b v ≡ pos 0 → turn b a v ≡ pos 0
     back = follows (pair ∷ pair ∷ pair ∷ []) (λ a b v. (turn_of_edge b a v := lit (pos 0)) ⇐ (hyp (lit (negsuc 0)) (turn_of_edge a b v) (lit (pos 0)) ∷ [])) tt a b v
+
+-- three points on one line, read backwards
+pub collinear_back : (a b c : Point) → collinear a b c ≡ collinear c b a
+collinear_back a b c =
+    same_test (collinear a b c) (collinear c b a)
+    (λ h. zero_is (turn c b a) (turn_back a b c (zero_yes (turn a b c) h)))
+    (λ h. zero_is (turn a b c) (turn_back c b a (zero_yes (turn c b a) h)))

@@ -1,8 +1,11 @@
 -- The meeting test by its parts. Three turns give the fourth; two on one side are enough to tell that nothing meets.
-use mathlib.Core.Path.{◌≡◌, refl, sym, ◌∙◌, ap, subst}
+use mathlib.Core.Path.{◌≡◌, refl, sym, ◌∙◌, ap, ap₂, subst}
 use mathlib.Core.Bool.{Bool, true, false, not, ◌&&◌, cond}
 use mathlib.Core.List.{[], ◌∷◌}
 use Prim.Native.Nat.{◌≤◌}
+use lib.Dec.{eqb}
+use mir.Syntax.{w64}
+use mir.Val.{SFits, of_z}
 use lib.IntN.{ℤ, pos, ◌+ℤ◌, ◌-ℤ◌, ◌*ℤ◌}
 use Rattle.algebra.specs.Polynomials.{◌:+◌, ◌:-◌, ◌:*◌}
 use Rattle.algebra.specs.Identities.{ident, pair, ◌:=◌}
@@ -13,9 +16,12 @@ use Rattle.geometry.specs.Segment.{same_side, shared, parallel, overlap, meets}
 use Rattle.geometry.specs.Lent.{InRange}
 use Rattle.geometry.proofs.Turns.{turn_of_edge}
 use Rattle.geometry.proofs.Points.{zero_yes}
-use Rattle.geometry.proofs.Reading.{cross_bound, gap_x, gap_y}
+use Rattle.geometry.proofs.Reading.{cross_bound, gap_x, gap_y, zero_bits}
 
 -- ---- on one line, and off it
+pub on_line : (a b c d : Point) {p q : ℤ} → SFits w64 p → SFits w64 q → p ≡ turn a b c → q ≡ turn a b d → (eqb (of_z w64 p) 0 && eqb (of_z w64 q) 0) ≡ parallel a b c d
+on_line a b c d {p} {q} f g ep eq = ap₂ ◌&&◌ (zero_bits p f ∙ ap is_zero ep) (zero_bits q g ∙ ap is_zero eq)
+
 pub meets_on_line : (a b c d : Point) {o : Bool} → o ≡ overlap a b c d → parallel a b c d ≡ true → o ≡ meets a b c d
 meets_on_line a b c d o e = rw e o
 

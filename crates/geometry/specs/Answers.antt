@@ -1,11 +1,9 @@
--- What the public entries answer, in document 01's numbers, and the answer that each has to give.
-use Rattle.std.specs.Prelude.{Bool, true, false, not, ◌&&◌, cond, ℕ, zero, suc, ℤ, pos, negsuc}
+-- What the public entries answer, with the refusal numbers, and the answer that each has to give.
+use Rattle.std.specs.Prelude.{Bool, not, ◌&&◌, cond, ℕ, zero, suc, ℤ, pos, negsuc, Result, Ok, Err}
+use Rattle.refusal.specs.declared.Refusal.{Refusal}
+use Rattle.refusal.specs.Number.{number_of}
 use Rattle.geometry.specs.declared.orientation.Orientation.{Orientation}
 use Rattle.geometry.specs.declared.orientation.Orientation.TheVariants.{CounterClockWise, ClockWise, CoLinear}
-use Rattle.geometry.specs.declared.orientation.Oriented.{Oriented}
-use Rattle.geometry.specs.declared.orientation.Oriented.TheVariants.{Turns, OutOfRange}
-use Rattle.geometry.specs.declared.line_segment.Verdict.{Verdict}
-use Rattle.geometry.specs.declared.line_segment.Verdict.TheVariants.{Yes, No, Refused}
 use Rattle.geometry.specs.declared.line_segment.EndPoint.{EndPoint}
 use Rattle.geometry.specs.declared.line_segment.EndPoint.TheVariants.{Exclusive, Inclusive}
 use Rattle.geometry.specs.Plane.{Point, turn, eq_point, near_point}
@@ -17,20 +15,19 @@ pub data Answer (A : Type 0) : Type 0 where
   refused : ℕ → Answer A
   answered : A → Answer A
 
--- ---- the enums, in these words
+-- ---- the results, in these words
 abbrev pub turn_of : Orientation → ℤ
 turn_of CounterClockWise = pos 1
 turn_of ClockWise = negsuc 0
 turn_of CoLinear = pos 0
 
-abbrev pub oriented_of : Oriented → Answer ℤ
-oriented_of (Turns o) = answered (turn_of o)
-oriented_of OutOfRange = refused 3
+abbrev pub oriented_of : Result Orientation Refusal → Answer ℤ
+oriented_of (Ok o) = answered (turn_of o)
+oriented_of (Err r) = refused (number_of r)
 
-abbrev pub verdict_of : Verdict → Answer Bool
-verdict_of Yes = answered true
-verdict_of No = answered false
-verdict_of Refused = refused 3
+abbrev pub verdict_of : Result Bool Refusal → Answer Bool
+verdict_of (Ok holds) = answered holds
+verdict_of (Err r) = refused (number_of r)
 
 -- an end's point, and its mark
 abbrev pub end_of : EndPoint → Point

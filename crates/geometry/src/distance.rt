@@ -4,8 +4,7 @@ ghost use Rattle.algebra.specs.Size.{abs};
 ghost use Rattle.geometry.specs.Plane.{squared_distance};
 ghost use Rattle.geometry.specs.Lent.{spot, InRange};
 
-use super::orientation::gap;
-use super::point::Point;
+use super::point::{Point, gap};
 
 // Gaps of points within the limits are at most 2·10⁹, so that the squares and their sum fit.
 fn squares(dx: i64, dy: i64) -> u64

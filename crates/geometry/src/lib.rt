@@ -1,10 +1,11 @@
 // Exact plane geometry over 32-bit coordinates: orientation, what a segment contains, when two segments meet, and how far apart two points are.
 //
-// The entries `orient`, `contains` and `meets` check what they are given and refuse it with number 3. The functions with a
+// The entries `orient`, `contains` and `meets` check what they are given and refuse what is out of range. The functions with a
 // `requires` do not check: they are for hot loops over points that are known to be within the limits.
 #![tactic(auto)]
 
 pub mod distance;
+pub mod lent;
 pub mod line_segment;
 pub mod orientation;
 pub mod point;

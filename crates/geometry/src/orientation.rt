@@ -2,30 +2,17 @@
 ghost use Rattle.std.specs.Prelude.{◌≡◌, ◌≤◌, ◌-ℤ◌, ◌*ℤ◌};
 ghost use Rattle.algebra.specs.Size.{abs};
 ghost use Rattle.geometry.specs.Plane.{turn};
-ghost use Rattle.geometry.specs.Lent.{spot, points, InRange, Here};
+ghost use Rattle.geometry.specs.Lent.{spot, InRange};
 ghost use Rattle.geometry.specs.Answers.{sign, turn_of, oriented_of, orientation};
 
-use super::point::{Point, in_range, point_at};
+use super::point::{Point, gap};
+use refusal::Refusal;
 
-#[derive(Clone, Copy)]
+#[derive(Clone, Copy, Debug, PartialEq, Eq)]
 pub enum Orientation {
     CounterClockWise,
     ClockWise,
     CoLinear,
-}
-
-// What `orient` answers. Out of range is refusal 3.
-#[derive(Clone, Copy)]
-pub enum Oriented {
-    Turns(Orientation),
-    OutOfRange,
-}
-
-// a - b, in 64 bits.
-pub fn gap(a: i32, b: i32) -> i64
-    ensures { result ≡ a -ℤ b }
-{
-    a as i64 - b as i64
 }
 
 // Gaps of points within the limits are at most 2·10⁹, so that the products and their difference fit.
@@ -48,14 +35,6 @@ pub fn turn_of(a: Point, b: Point, c: Point) -> i64
     cross(ux, uy, vx, vy)
 }
 
-// The same of three point numbers.
-pub fn turn_at(x: &[i32], y: &[i32], a: usize, b: usize, c: usize) -> i64
-    requires { Here x.now y.now a × Here x.now y.now b × Here x.now y.now c }
-    ensures { result ≡ turn (points x.now y.now a) (points x.now y.now b) (points x.now y.now c) }
-{
-    turn_of(point_at(x, y, a), point_at(x, y, b), point_at(x, y, c))
-}
-
 fn side_of(t: i64) -> Orientation
     ensures { turn_of result ≡ sign t }
 {
@@ -69,11 +48,11 @@ fn side_of(t: i64) -> Orientation
 }
 
 // Which way one turns who walks from a to b to c (`Orientation::new`).
-pub fn orient(a: Point, b: Point, c: Point) -> Oriented
+pub fn orient(a: Point, b: Point, c: Point) -> Result<Orientation, Refusal>
     ensures { oriented_of result ≡ orientation (spot a) (spot b) (spot c) }
 {
-    if !(in_range(a) & (in_range(b) & in_range(c))) {
-        return Oriented::OutOfRange;
+    if !(a.is_in_range() & (b.is_in_range() & c.is_in_range())) {
+        return Err(Refusal::OutOfRange);
     }
-    Oriented::Turns(side_of(turn_of(a, b, c)))
+    Ok(side_of(turn_of(a, b, c)))
 }

@@ -1,58 +1,28 @@
-// Points (point.rs): their limits and their order.
-ghost use Rattle.std.specs.Prelude.{◌≡◌, ◌≤◌, pos, ◌+ℤ◌, ◌*ℤ◌};
+// A point (point.rs): its limits and its order.
+ghost use Rattle.std.specs.Prelude.{◌≡◌, ◌≤◌, ◌-ℤ◌, pos, ◌+ℤ◌, ◌*ℤ◌};
 ghost use Rattle.algebra.specs.Size.{abs};
-ghost use Rattle.geometry.specs.Plane.{near, near_point, eq_point, lt_point, min_point, max_point};
-ghost use Rattle.geometry.specs.Lent.{spot, points, InRange, Here, order_key};
+ghost use Rattle.geometry.specs.Plane.{near, near_point};
+ghost use Rattle.geometry.specs.Lent.{spot, InRange, order_key};
 
-#[derive(Clone, Copy)]
+// Points order by x, then y.
+#[derive(Clone, Copy, Debug, PartialEq, Eq, PartialOrd, Ord)]
 pub struct Point {
     pub x: i32,
     pub y: i32,
 }
 
 // A coordinate within ±1,000,000,000.
-pub fn is_near(v: i32) -> bool
+fn is_near(v: i32) -> bool
     ensures { result ≡ near v }
 {
     (-1_000_000_000 <= v) & (v <= 1_000_000_000)
 }
 
-pub fn in_range(p: Point) -> bool
-    ensures { result ≡ near_point (spot p) }
+// a - b, in 64 bits.
+pub fn gap(a: i32, b: i32) -> i64
+    ensures { result ≡ a -ℤ b }
 {
-    is_near(p.x) & is_near(p.y)
-}
-
-pub fn alike(a: Point, b: Point) -> bool
-    ensures { result ≡ eq_point (spot a) (spot b) }
-{
-    (a.x == b.x) & (a.y == b.y)
-}
-
-// Points order by x, then y.
-pub fn is_less(a: Point, b: Point) -> bool
-    ensures { result ≡ lt_point (spot a) (spot b) }
-{
-    (a.x < b.x) | ((a.x == b.x) & (a.y < b.y))
-}
-
-pub fn lesser(a: Point, b: Point) -> Point
-    ensures { spot result ≡ min_point (spot a) (spot b) }
-{
-    if is_less(a, b) { a } else { b }
-}
-
-pub fn greater(a: Point, b: Point) -> Point
-    ensures { spot result ≡ max_point (spot a) (spot b) }
-{
-    if is_less(a, b) { b } else { a }
-}
-
-// In 64 bits.
-fn wide(v: i32) -> i64
-    ensures { result ≡ v }
-{
-    v as i64
+    i64::from(a) - i64::from(b)
 }
 
 // 2³² times x, and y: for coordinates within the limits it fits.
@@ -63,32 +33,18 @@ fn joined(x: i64, y: i64) -> i64
     x * 4_294_967_296 + y
 }
 
-// A number that orders points within the limits as `is_less` does: both coordinates in one comparison.
-pub fn order_key(p: Point) -> i64
-    requires { InRange (spot p) }
-    ensures { result ≡ order_key (spot p) }
-{
-    joined(wide(p.x), wide(p.y))
-}
+impl Point {
+    pub fn is_in_range(self) -> bool
+        ensures { result ≡ near_point (spot self) }
+    {
+        is_near(self.x) & is_near(self.y)
+    }
 
-// Point number i of the lent x and y.
-pub fn point_at(x: &[i32], y: &[i32], i: usize) -> Point
-    requires { Here x.now y.now i }
-    ensures { spot result ≡ points x.now y.now i }
-{
-    Point { x: x[i], y: y[i] }
-}
-
-pub fn less_at(x: &[i32], y: &[i32], a: usize, b: usize) -> bool
-    requires { Here x.now y.now a × Here x.now y.now b }
-    ensures { result ≡ lt_point (points x.now y.now a) (points x.now y.now b) }
-{
-    is_less(point_at(x, y, a), point_at(x, y, b))
-}
-
-pub fn alike_at(x: &[i32], y: &[i32], a: usize, b: usize) -> bool
-    requires { Here x.now y.now a × Here x.now y.now b }
-    ensures { result ≡ eq_point (points x.now y.now a) (points x.now y.now b) }
-{
-    alike(point_at(x, y, a), point_at(x, y, b))
+    // A number that orders points within the limits as `<` does: both coordinates in one comparison.
+    pub fn order_key(self) -> i64
+        requires { InRange (spot self) }
+        ensures { result ≡ order_key (spot self) }
+    {
+        joined(i64::from(self.x), i64::from(self.y))
+    }
 }

@@ -3,7 +3,7 @@ use mathlib.Core.Path.{◌≡◌, refl, sym, ◌∙◌, ap}
 use mathlib.Core.Bool.{Bool, true, false, not, ◌&&◌}
 use Rattle.geometry.specs.Plane.{is_zero, lt_point, min_point, max_point, collinear}
 use Rattle.geometry.specs.Lent.{spot}
-use Rattle.geometry.proofs.Reading.{read_64}
+use Rattle.geometry.proofs.Reading.{read_64, zero_bits}
 use Rattle.geometry.proofs.Ordering.{between_by}
 use Rattle.geometry.proofs.line_segment.is_inside.Goals as goal
 
@@ -39,5 +39,5 @@ returns c =
     (read_64 c.order_key-3.type_inv c.order_key-3.ensures)
     c.keys_between.ensures in
     let s = c.args in
-    c.is_zero.ensures ∙ ap is_zero (read_64 c.turn_of.type_inv c.turn_of.ensures)
+    zero_bits c.turn_of.result (record { sfits = c.turn_of.type_inv }) ∙ ap is_zero c.turn_of.ensures
     ∙ in_order (collinear (spot s.a) (spot s.b) (spot s.v)) (lt_point (min_point (spot s.a) (spot s.b)) (spot s.v) && lt_point (spot s.v) (max_point (spot s.a) (spot s.b))) (ap not (sym order_is ∙ c.if-not-keys_between.false))

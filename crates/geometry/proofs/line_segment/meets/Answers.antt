@@ -26,4 +26,4 @@ segments_meet-requires c =
 pub returns : goal.returns
 returns c =
     let check_is : let s = c.args in (c.is_proper.result && c.is_proper-2.result) ≡ (proper (spot s.a1) (spot s.a2) && proper (spot s.b1) (spot s.b2)) = ap₂ ◌&&◌ c.is_proper.ensures c.is_proper-2.ensures in
-    c.answer.ensures ∙ ap answered c.segments_meet.ensures ∙ passed _ _ (sym check_is ∙ c.if-not-is_proper.false)
+    ap answered c.segments_meet.ensures ∙ passed _ _ (sym check_is ∙ c.if-not-is_proper.false)
