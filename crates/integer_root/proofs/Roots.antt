@@ -3,7 +3,6 @@ use mathlib.Core.Path.{◌≡◌, refl}
 use Prim.Native.Nat.{ℕ, zero, suc, ◌+◌, ◌*◌, ◌/◌, ◌≤◌, ◌<◌}
 use native.Mathlib.Omega.{arith}
 use Rattle.algebra.specs.Cases.{both, le_cases}
-use Rattle.algebra.specs.Size.{mul_bound}
 use Rattle.integer_root.specs.Root.{Root, or_more, root_to, root}
 
 -- 0, a square, one below it and one above it; the greatest number of 64 bits, and the greatest square and one below it
@@ -21,8 +20,8 @@ more_is r v h =
 
 to_is : (k v : ℕ) → v ≤ k → Root v (root_to k v)
 unfolding root_to
-to_is zero v l = record { low = omega arith; high = omega arith }
-to_is (suc k) zero l = record { low = omega arith; high = omega arith }
+to_is zero v l = grind arith
+to_is (suc k) zero l = grind arith
 to_is (suc k) (suc v) l = more_is (root_to k (suc v / 4)) (suc v) (to_is k (suc v / 4) (omega arith))
 
 pub root_is : (v : ℕ) → Root v (root v)
@@ -31,17 +30,16 @@ root_is v = to_is v v (omega arith)
 
 -- every number whose square is at most v is at most its root
 pub root_greatest : (v f g : ℕ) → Root v f → g * g ≤ v → g ≤ f
-root_greatest v f g h k =
-    both (le_cases g f) (λ c. c.0)
-    (λ c. absurd (let m : (f + 1) * (f + 1) ≤ g * g = mul_bound (f + 1) (f + 1) g g (omega (arith, c.0)) (omega (arith, c.0)) in omega (arith, m, k, h.high)))
+root_greatest v f g h k = grind arith
 
 -- the one such number
 pub root_only : (v f : ℕ) → Root v f → f ≡ root v
-root_only v f h = omega (arith, root_greatest v f (root v) h (root_is v).low, root_greatest v (root v) f (root_is v) h.low)
+root_only v f h = let r = root_is v in grind arith
+
+-- the same of a number by its two squares
+pub root_of : {v f : ℕ} → f * f ≤ v → v < (f + 1) * (f + 1) → f ≡ root v
+root_of {v} {f} low high = root_only v f (record { low = low; high = high })
 
 -- the root of a number below the square of b is below b
 pub root_below : (v b : ℕ) → v < b * b → root v < b
-root_below v b h =
-    both (le_cases b (root v))
-    (λ c. absurd (let m : b * b ≤ root v * root v = mul_bound b b (root v) (root v) c.0 c.0 in omega (arith, m, h, (root_is v).low)))
-    (λ c. c.0)
+root_below v b h = let r = root_is v in grind arith

@@ -1,16 +1,15 @@
 -- A ring names each point once: every point stands somewhere on it, and the test `each_once`, that no entry is at fault, decides it.
-use mathlib.Core.Path.{◌≡◌, refl, sym, subst, ap}
+use mathlib.Core.Path.{◌≡◌, refl, sym}
 use mathlib.Core.Bool.{true, cond}
 use mathlib.Core.List.{List}
-use mathlib.Core.Logic.{◌⊎◌, inl, inr, ◌≢◌, ◌↔◌}
+use mathlib.Core.Logic.{◌⊎◌, ◌≢◌, ◌↔◌}
 use mathlib.Core.Option.{Option, none, some}
 use Prim.Native.Nat.{ℕ, zero, suc, ◌<◌}
 use native.Mathlib.Omega.{arith}
 use lib.Dec.{eqb}
 use lib.ListN.{length}
-use borrow.Author.Tests.{eqb-true, eq-eqb}
-use Rattle.algebra.specs.Cases.{both, le_cases, eq_cases, never, and_left, and_right}
-use Rattle.algebra.specs.Ranges.{by_order}
+use borrow.Author.Tests.{eq-eqb}
+use Rattle.algebra.specs.Cases.{both, eq_cases, never, and_left, and_right}
 use Rattle.polygon.specs.Ring.{at, IsRing, FirstFault, first_fault, is_none, each_once}
 use Rattle.polygon.proofs.FirstFault.{first_is, first_only}
 
@@ -21,19 +20,16 @@ skip n f i = cond (eqb (f i) n) (f n) (f i)
 
 module _ (n : ℕ) (f : ℕ → ℕ) (low : (i : ℕ) → i < suc n → f i < suc n) (inj : (i j : ℕ) → i < suc n → j < suc n → f i ≡ f j → i ≡ j) where
   skip_cases : (i : ℕ) → ((f i ≡ n) × (skip n f i ≡ f n)) ⊎ ((f i ≢ n) × (skip n f i ≡ f i))
-  skip_cases i = both (eq_cases (f i) n) (λ h. inl (h.0, rw h.1)) (λ h. inr (h.0, rw h.1))
+  skip_cases i = grind arith
 
   not_last : (i : ℕ) → i < n → f i ≢ f n
-  not_last i l e = (let z = inj i n (omega arith) (omega arith) e in omega arith)
+  not_last i l e = grind arith
 
   skip_low : (i : ℕ) → i < n → skip n f i < n
-  skip_low i l = both (skip_cases i) (λ h. let a = low n (omega arith) in let b = not_last i l in omega arith) (λ h. let a = low i (omega arith) in omega arith)
+  skip_low i l = grind arith
 
   skip_inj : (i j : ℕ) → i < n → j < n → skip n f i ≡ skip n f j → i ≡ j
-  skip_inj i j li lj e =
-      both (skip_cases i)
-      (λ h. both (skip_cases j) (λ k. inj i j (omega arith) (omega arith) (omega arith)) (λ k. absurd (not_last j lj (omega arith))))
-      (λ h. both (skip_cases j) (λ k. absurd (not_last i li (omega arith))) (λ k. inj i j (omega arith) (omega arith) (omega arith)))
+  skip_inj i j li lj e = grind arith
 
   onto_step : ((x : ℕ) → x < n → (i : ℕ) × (i < n) × (skip n f i ≡ x)) → (v : ℕ) → v < suc n → (i : ℕ) × (i < suc n) × (f i ≡ v)
   onto_step found v l =
@@ -59,29 +55,17 @@ is_none_lem (some i) h = never (is_none (some i)) h refl
 module _ (n : ℕ) (r : List ℕ) where
   -- no entry of a ring is at fault, and n entries of which none is are a ring
   ring_right : IsRing n r → FirstFault n r none
-  ring_right ring i l f =
-      both f
-      (λ g. (let b = ring.below i l in omega (arith, b, g)))
-      (λ g. (let (j, k, e) = g in let z = ring.apart j i (omega (arith, k, l)) l e in omega (arith, z, k)))
+  ring_right ring i l f = grind arith
 
   right_ring : length r ≡ n → FirstFault n r none → IsRing n r
-  right_ring e right =
-      record {
-        len = e;
-        below = λ i l. both (le_cases n (at r i)) (λ g. absurd (right i l (inl g.0))) (λ g. g.0);
-        apart = by_order n (λ i j. at r i ≡ at r j) (λ i j e. sym e) (λ i j ji l e. right i l (inr (j, ji, e)));
-      }
+  right_ring e right = grind arith
 
   -- None exactly when each point is named once.
   pub none_decides : length r ≡ n → (first_fault n r ≡ none) ↔ IsRing n r
-  none_decides e = (λ h. right_ring e (subst (FirstFault n r) h (first_is n r)), λ ring. sym (first_only n r none (ring_right ring)))
-
-  -- what is told of a ring's faults is what the test asks
-  pub told_each : {o : Option ℕ} → length r ≡ n → o ≡ first_fault n r → is_none o ≡ each_once n r
-  told_each e h = rw (eq-eqb (length r) n e) (ap is_none h)
+  none_decides e = grind (arith, right_ring, first_is, first_only, ring_right)
 
   pub each_ring : each_once n r ≡ true → IsRing n r
-  each_ring h = (none_decides (eqb-true (length r) n (and_left (eqb (length r) n) _ h))).0 (is_none_lem (first_fault n r) (and_right (eqb (length r) n) _ h))
+  each_ring h = grind (arith, none_decides, and_left, is_none_lem, and_right)
 
   pub ring_each : IsRing n r → each_once n r ≡ true
   ring_each ring = rw (eq-eqb (length r) n ring.len, (none_decides ring.len).1 ring) refl

@@ -1,5 +1,6 @@
 -- `first_fault` is the first position at fault, and what a pass over the ring knows on its way.
-use mathlib.Core.Path.{◌≡◌, refl, sym, ap, ◌∙◌}
+use Rattle.std.proofs.lemmas.Grind.{elements}
+use mathlib.Core.Path.{◌≡◌, refl, sym, ◌∙◌}
 use mathlib.Core.Bool.{Bool, true, false}
 use mathlib.Core.List.{List, [], ◌∷◌}
 use mathlib.Core.Logic.{inl, inr, ◌↔◌}
@@ -8,9 +9,8 @@ use Prim.Native.Nat.{ℕ, zero, suc, ◌+◌, ◌≤◌, ◌<◌}
 use native.Mathlib.Omega.{arith}
 use lib.Dec.{eqb, leb}
 use lib.ListN.{length, get_or, set, replicate}
-use lib.Seq.{get_or-set_same, get_or-set_other}
-use borrow.Author.Tests.{leb-true, le-leb, eqb-true, eq-eqb}
-use Rattle.algebra.specs.Cases.{both, le_cases, eq_cases, never, or_cases, or_right}
+use borrow.Author.Tests.{le-leb, eq-eqb}
+use Rattle.algebra.specs.Cases.{both, never, or_cases, or_right}
 use Rattle.algebra.specs.Ranges.{some_true, true_some, IsLeast, least_is}
 use Rattle.polygon.specs.Ring.{at, AtFault, at_fault, FirstFault, first_fault}
 
@@ -25,10 +25,7 @@ rows = (refl, refl, refl, refl, refl, refl, refl)
 module _ (n : ℕ) (r : List ℕ) where
   -- ---- the test decides
   fault_told : (i : ℕ) → at_fault n r i ≡ true → AtFault n r i
-  fault_told i h =
-      both (or_cases (leb n (at r i)) _ h)
-      (λ g. inl (leb-true n (at r i) g))
-      (λ g. let (j, l, e) = some_true i (λ j. eqb (at r j) (at r i)) g in inr (j, l, eqb-true (at r j) (at r i) e))
+  fault_told i h = grind (arith, or_cases, some_true)
 
   told_fault : (i : ℕ) → AtFault n r i → at_fault n r i ≡ true
   told_fault i f =
@@ -41,8 +38,8 @@ module _ (n : ℕ) (r : List ℕ) where
 
   -- ---- the position
   in_words : (o : Option ℕ) → IsLeast 0 n (at_fault n r) o → FirstFault n r o
-  in_words none h = λ i l f. never (at_fault n r i) (told_fault i f) (h i (omega arith) (omega (arith, l)))
-  in_words (some i) (a, l, e, h) = (omega (arith, l), fault_told i e, λ j k f. never (at_fault n r j) (told_fault j f) (h j (omega arith) k))
+  in_words none h = grind (arith, told_fault)
+  in_words (some i) (a, l, e, h) = grind (arith, fault_told, told_fault)
 
   pub first_is : FirstFault n r (first_fault n r)
   first_is = in_words (first_fault n r) (least_is 0 n (at_fault n r))
@@ -52,10 +49,7 @@ module _ (n : ℕ) (r : List ℕ) where
   one_first none none f g = refl
   one_first none (some j) f (l, e, h) = absurd (f j l e)
   one_first (some i) none (l, e, h) g = absurd (g i l e)
-  one_first (some i) (some j) (l, e, h) (m, d, k) =
-      both (le_cases (suc i) j)
-      (λ a. absurd (k i a.0 e))
-      (λ a. both (le_cases (suc j) i) (λ b. absurd (h j b.0 d)) (λ b. ap some (omega (arith, a.0, b.0))))
+  one_first (some i) (some j) (l, e, h) (m, d, k) = grind arith
 
   pub first_only : (o : Option ℕ) → FirstFault n r o → o ≡ first_fault n r
   first_only o f = one_first o (first_fault n r) f first_is
@@ -63,12 +57,13 @@ module _ (n : ℕ) (r : List ℕ) where
   -- ---- a pass over the ring
   -- No entry before position i is at fault, and marked are the numbers that stand there.
   pub record Passed (seen : List Bool) (i : ℕ) : Type 0 where
+    pub size : length seen ≡ 256
     pub right : (j : ℕ) → j < i → ¬ AtFault n r j
     pub stands : (v : ℕ) → get_or seen v false ≡ true → (j : ℕ) × (j < i) × (at r j ≡ v)
     pub marked : (j : ℕ) → j < i → get_or seen (at r j) false ≡ true
 
   pub passed_none : Passed (replicate 256 false) 0
-  passed_none = record { right = λ j l. absurd (omega (arith, l)); stands = λ v h. never false (sym (no_mark 256 v) ∙ h) refl; marked = λ j l. absurd (omega (arith, l)) }
+  passed_none = record { size = refl; right = λ j l. absurd (omega (arith, l)); stands = λ v h. never false (sym (no_mark 256 v) ∙ h) refl; marked = λ j l. absurd (omega (arith, l)) }
     where
       no_mark : (k v : ℕ) → get_or (replicate k false) v false ≡ false
       no_mark zero v = refl
@@ -86,28 +81,8 @@ module _ (n : ℕ) (r : List ℕ) where
       pub seen_before : get_or seen (at r i) false ≡ true → some i ≡ first_fault n r
       seen_before h = first_only (some i) (l, inr (p.stands (at r i) h), p.right)
 
-    pub passed_more : at r i < n → n ≤ length seen → get_or seen (at r i) false ≡ false → Passed (set seen (at r i) true) (i + 1)
-    passed_more h s u =
-        record {
-          right = λ j l. both (le_cases (suc j) i) (λ g. p.right j g.0) (λ g. rw (let e : j ≡ i = omega (arith, l, g.0) in e) right_here);
-          stands = λ v t.
-              both (eq_cases (at r i) v)
-              (λ g. (i, omega arith, g.0))
-              (λ g. let (j, l, e) = p.stands v (sym (get_or-set_other seen (at r i) v true false (λ z. g.0 (sym z))) ∙ t) in (j, omega (arith, l), e));
-          marked = λ j l. both (le_cases (suc j) i) (λ g. kept (at r j) (p.marked j g.0)) (λ g. rw (let e : j ≡ i = omega (arith, l, g.0) in e) here);
-        }
-      where
-        here : get_or (set seen (at r i) true) (at r i) false ≡ true
-        here = get_or-set_same seen (at r i) true false (omega (arith, h, s))
+    pub passed_more : at r i < n → n ≤ 256 → get_or seen (at r i) false ≡ false → Passed (set seen (at r i) true) (i + 1)
+    passed_more h s u = grind (arith, elements)
 
-        kept : (v : ℕ) → get_or seen v false ≡ true → get_or (set seen (at r i) true) v false ≡ true
-        kept v t =
-            both (eq_cases (at r i) v)
-            (λ g. ap (λ w. get_or (set seen (at r i) true) w false) (sym g.0) ∙ here)
-            (λ g. get_or-set_other seen (at r i) v true false (λ z. g.0 (sym z)) ∙ t)
-
-        right_here : ¬ AtFault n r i
-        right_here f =
-            both f
-            (λ g. omega (arith, h, g))
-            (λ g. let (j, l, e) = g in never (get_or seen (at r i) false) (ap (λ v. get_or seen v false) (sym e) ∙ p.marked j l) u)
+-- what the check of the pass needs
+pub ruleset pass_steps = (passed_more, passed_all, too_large, seen_before)

@@ -29,50 +29,34 @@ module _ (n : ℕ) (r : List ℕ) (k p : ℕ) (lk : k < n) (lp : p < n) (kp : k 
   dist_p : D p ≡ 0
   dist_p = dist_self n p lp
 
-  dist_k_some : D k ≢ 0
-  dist_k_some h = kp (dist_zero n p lp k lk h)
-
   dist_k_lt : D k < n
   dist_k_lt = dist_lt n p lp k lk
 
   dist_next_p : D (next n p) ≡ 1
-  dist_next_p = dist_suc n p lp p lp (omega (arith, dist_p, dist_k_some, dist_k_lt)) ∙ ap suc dist_p
+  dist_next_p = grind arith
 
   dist_k : 1 < D k
-  dist_k = both (eq_cases (D k) 1) (λ h. absurd (kp' (dist_inj n p lp k (next n p) lk (next_lt n p lp) (h.0 ∙ sym dist_next_p)))) (λ h. omega (arith, dist_k_some))
+  dist_k = grind arith
 
   -- a place past k stays, whether or not the step behind it comes round to p
   stays : (i : ℕ) → i < n → D k ≤ D i → f (next n i) ≡ next n i
-  stays i l h =
-      both (le_cases (suc (suc (D i))) n)
-      (λ g. let s = dist_suc n p lp i l g.0 in slide_out n p k (next n i) (omega (arith, dist_k)) (omega arith))
-      (λ g. slide_zero n p k (next n i) (dist_wrap n p lp i l (omega (arith, dist_lt n p lp i l))))
+  stays i l h = grind (arith, le_cases, dist_suc, slide_out, dist_k, slide_zero, dist_wrap, dist_lt)
 
   -- ---- the edges of the new ring, position by position
   hoist_stay : (j : ℕ) → j < n → D k < D j → edge_at n r' j ≡ edge_at n r j
-  hoist_stay j l h = moved_edge n f r j l j (next n j) (slide_out n p k j (omega (arith, dist_k)) h) (stays j l (omega arith))
+  hoist_stay j l h = grind (arith, moved_edge, slide_out, dist_k, stays)
 
   hoist_shift : (j : ℕ) → j < n → 0 < D j → suc (D j) < D k → edge_at n r' (next n j) ≡ edge_at n r j
-  hoist_shift j l h g =
-      let dk = dist_k_lt in
-      let l' = next_lt n j l in
-      let s : D (next n j) ≡ suc (D j) = dist_suc n p lp j l (omega arith) in
-      let s' : D (next n (next n j)) ≡ suc (suc (D j)) = dist_suc n p lp (next n j) l' (omega arith) ∙ ap suc s in
-      moved_edge n f r (next n j) l' j (next n j)
-      (slide_in n p k (next n j) (omega arith) (omega arith) ∙ prev_next n j l)
-      (slide_in n p k (next n (next n j)) (omega arith) (omega arith) ∙ prev_next n (next n j) l')
+  hoist_shift j l h g = grind (arith, dist_k_lt, next_lt, dist_suc, moved_edge, slide_in, prev_next)
 
   hoist_at_p : edge_at n r' p ≡ edge (at r p) (at r k)
   hoist_at_p = moved_edge n f r p lp p k (slide_zero n p k p dist_p) (slide_one n p k (next n p) dist_next_p)
 
   hoist_behind : edge_at n r' (next n p) ≡ edge (at r k) (at r (next n p))
-  hoist_behind =
-      let l' = next_lt n p lp in
-      let s : D (next n (next n p)) ≡ 2 = dist_suc n p lp (next n p) l' (omega (arith, dist_next_p, dist_k, dist_k_lt)) ∙ ap suc dist_next_p in
-      moved_edge n f r (next n p) l' k (next n p) (slide_one n p k (next n p) dist_next_p) (slide_in n p k (next n (next n p)) (omega arith) (omega (arith, dist_k)) ∙ prev_next n (next n p) l')
+  hoist_behind = grind (arith, next_lt, dist_suc, dist_next_p, dist_k, dist_k_lt, moved_edge, slide_one, slide_in, prev_next)
 
   hoist_at_k : edge_at n r' k ≡ edge (at r (prev n k)) (at r (next n k))
-  hoist_at_k = moved_edge n f r k lk (prev n k) (next n k) (slide_in n p k k dist_k (omega arith)) (stays k lk (omega arith))
+  hoist_at_k = grind (arith, moved_edge, slide_in, dist_k, stays)
 
   abbrev cut1 : Edge
   cut1 = edge_at n r (prev n k)
@@ -93,7 +77,7 @@ module _ (n : ℕ) (r : List ℕ) (k p : ℕ) (lk : k < n) (lp : p < n) (kp : k 
   laid3 = edge (at r k) (at r (next n p))
 
   dist_prev_k : suc (D (prev n k)) ≡ D k
-  dist_prev_k = dist_pred n p lp k lk (omega (arith, dist_k))
+  dist_prev_k = grind arith
 
   module _ (ring : IsRing n r) (three : 3 ≤ n) where
     hoist_uncut : (e : Edge) (j : ℕ) → j < n → D j ≢ 0 → D j ≢ D k → suc (D j) ≢ D k → e ≡ edge_at n r j → edge_in e (cut n (hoist k p) r) ≡ false

@@ -1,4 +1,5 @@
 -- Swapping two points at a time, from the ends of a stretch inward or from a point back, comes to reversed and joined.
+use Rattle.std.proofs.lemmas.Grind.{elements}
 use mathlib.Core.Path.{◌≡◌, sym, ◌∙◌, ap}
 use mathlib.Core.Bool.{cond}
 use mathlib.Core.List.{List}
@@ -7,11 +8,11 @@ use Prim.Native.Nat.{ℕ, suc, ◌≤◌, ◌<◌}
 use native.Mathlib.Omega.{arith}
 use lib.Dec.{eqb}
 use lib.ListN.{length, set, length-set}
-use lib.Seq.{get_or-set_same, get_or-set_other, ext_get_or}
+use lib.Seq.{ext_get_or}
 use borrow.Author.Tests.{eq-eqb, ne_eqb}
 use Rattle.polygon.specs.Ring.{next, prev, dist, at, swap, moved, flip, reversed, slide, joined}
 use Rattle.algebra.specs.Cases.{both, le_cases, eq_cases}
-use Rattle.polygon.proofs.Positions.{next_cases, dist_cases, next_lt, prev_lt, next_prev, prev_next, dist_self, dist_lt, dist_inj, dist_suc, dist_zero, dist_pred, flip_lt, flip_in, flip_out, slide_zero, slide_one, slide_in, slide_out}
+use Rattle.polygon.proofs.Positions.{next_lt, prev_lt, next_prev, dist_self, dist_lt, dist_inj, dist_zero, dist_pred, flip_lt, flip_in, flip_out, slide_zero, slide_one, slide_in, slide_out}
 use Rattle.polygon.proofs.RingEdges.{moved_at, moved_length}
 
 -- a swap as a map on positions
@@ -23,7 +24,7 @@ module _ (p q i : ℕ) where
   trade_first h = rw (eq-eqb i p h)
 
   pub trade_second : i ≡ q → trade p q i ≡ p
-  trade_second h = both (eq_cases i p) (λ g. rw g.1 (sym h ∙ g.0)) (λ g. rw (g.1, eq-eqb i q h))
+  trade_second h = grind arith
 
   pub trade_other : i ≢ p → i ≢ q → trade p q i ≡ i
   trade_other h g = rw (ne_eqb i p h, ne_eqb i q g)
@@ -32,13 +33,7 @@ pub swap_length : (r : List ℕ) (p q : ℕ) → length (swap r p q) ≡ length 
 swap_length r p q = length-set (set r p (at r q)) q (at r p) ∙ length-set r p (at r q)
 
 pub swap_at : (r : List ℕ) (p q i : ℕ) → p < length r → q < length r → at (swap r p q) i ≡ at r (trade p q i)
-swap_at r p q i lp lq =
-    let ll = length-set r p (at r q) in
-    both (eq_cases i q)
-    (λ h. rw h.0 (get_or-set_same (set r p (at r q)) q (at r p) 0 (omega arith)) ∙ ap (at r) (sym (trade_second p q i h.0)))
-    (λ h. get_or-set_other (set r p (at r q)) q i (at r p) 0 h.0 ∙ both (eq_cases i p)
-    (λ g. rw g.0 (get_or-set_same r p (at r q) 0 lp) ∙ ap (at r) (sym (trade_first p q i g.0)))
-    (λ g. get_or-set_other r p i (at r q) 0 g.0 ∙ ap (at r) (sym (trade_other p q i g.0 h.0))))
+swap_at r p q i lp lq = grind (arith, elements)
 
 -- two rings are equal by their points
 pub moved_is : (n : ℕ) (f : ℕ → ℕ) (r s : List ℕ) → length s ≡ n → ((i : ℕ) → i < n → at s i ≡ at r (f i)) → s ≡ moved n f r
@@ -47,22 +42,10 @@ moved_is n f r s ls h = ext_get_or 0 s (moved n f r) (ls ∙ sym (moved_length n
 -- ---- counted from the place behind p
 module _ (n p : ℕ) (lp : p < n) where
   pub dist_behind : (i : ℕ) → i < n → 0 < dist n p i → suc (dist n (next n p) i) ≡ dist n p i
-  dist_behind i l h =
-      let lp' = next_lt n p lp in
-      both (next_cases n p)
-      (λ g. both (dist_cases n p i lp)
-      (λ f. both (dist_cases n (next n p) i lp') (λ k. omega arith) (λ k. omega arith))
-      (λ f. both (dist_cases n (next n p) i lp') (λ k. omega arith) (λ k. omega arith)))
-      (λ g. both (dist_cases n p i lp)
-      (λ f. both (dist_cases n (next n p) i lp') (λ k. omega arith) (λ k. omega arith))
-      (λ f. both (dist_cases n (next n p) i lp') (λ k. omega arith) (λ k. omega arith)))
+  dist_behind i l h = grind arith
 
   pub dist_behind_self : suc (dist n (next n p) p) ≡ n
-  dist_behind_self =
-      let lp' = next_lt n p lp in
-      both (next_cases n p)
-      (λ g. both (dist_cases n (next n p) p lp') (λ k. omega arith) (λ k. omega arith))
-      (λ g. both (dist_cases n (next n p) p lp') (λ k. omega arith) (λ k. omega arith))
+  dist_behind_self = grind arith
 
 -- ---- reversing, from the ends inward
 module _ (n p q : ℕ) (lp : p < n) (lq : q < n) where
@@ -71,18 +54,7 @@ module _ (n p q : ℕ) (lp : p < n) (lq : q < n) where
 
   -- the last swap: at most one place is left between the two
   pub flip_last : 0 < D q → D q ≤ 2 → (i : ℕ) → i < n → trade p q i ≡ flip n p q i
-  flip_last m m' i l =
-      let z = dist_self n p lp in
-      let fl = flip_lt n p q lp lq i l in
-      both (le_cases (D i) (D q))
-      (λ h. let fi = flip_in n p q lp lq i h.0 in
-      both (eq_cases i p)
-      (λ g. let e = ap D g.0 in trade_first p q i g.0 ∙ dist_inj n p lp q (flip n p q i) lq fl (omega arith))
-      (λ g. let o : D i ≢ 0 = λ e. g.0 (dist_zero n p lp i l e) in
-      both (eq_cases i q)
-      (λ k. let e = ap D k.0 in trade_second p q i k.0 ∙ dist_inj n p lp p (flip n p q i) lp fl (omega arith))
-      (λ k. let o' : D i ≢ D q = λ e. k.0 (dist_inj n p lp i q l lq e) in trade_other p q i g.0 k.0 ∙ dist_inj n p lp i (flip n p q i) l fl (omega arith))))
-      (λ h. trade_other p q i (λ e. (let e' = ap D e in omega arith)) (λ e. (let e' = ap D e in omega arith)) ∙ sym (flip_out n p q i h.0))
+  flip_last m m' i l = grind (arith, le_cases)
 
   -- a swap, and the stretch inside is left to turn
   pub flip_step : 1 < D q → (i : ℕ) → i < n → trade p q (flip n (next n p) (prev n q) i) ≡ flip n p q i
@@ -129,25 +101,14 @@ module _ (n : ℕ) (r : List ℕ) (p q : ℕ) (lr : length r ≡ n) (lp : p < n)
 -- how the ends stand to each other after a swap
 module _ (n p q : ℕ) (lp : p < n) (lq : q < n) (m : 1 < dist n p q) where
   pub dist_inward : suc (suc (dist n (next n p) (prev n q))) ≡ dist n p q
-  dist_inward =
-      let dq = dist_pred n p lp q lq (omega arith) in
-      ap suc (dist_behind n p lp (prev n q) (prev_lt n q lq) (omega arith)) ∙ dq
+  dist_inward = grind arith
 
 -- one is next p exactly when q is one step from p
 pub step_one : (n p q : ℕ) → p < n → q < n → p ≢ q → next n p ≡ q → dist n p q ≡ 1
-step_one n p q lp lq o e =
-    let z = dist_self n p lp in
-    let s : dist n p q ≢ 0 = λ x. o (sym (dist_zero n p lp q lq x)) in
-    let y = ap (dist n p) e in
-    both (le_cases 2 n) (λ h. sym y ∙ dist_suc n p lp p lp (omega arith) ∙ ap suc z) (λ h. absurd (omega (arith, dist_lt n p lp q lq)))
+step_one n p q lp lq o e = grind arith
 
 pub step_more : (n p q : ℕ) → p < n → q < n → p ≢ q → next n p ≢ q → 1 < dist n p q
-step_more n p q lp lq o e =
-    let z = dist_self n p lp in
-    let s : dist n p q ≢ 0 = λ x. o (sym (dist_zero n p lp q lq x)) in
-    both (eq_cases (dist n p q) 1)
-    (λ h. absurd (e (dist_inj n p lp (next n p) q (next_lt n p lp) lq (dist_suc n p lp p lp (omega (arith, dist_lt n p lp q lq)) ∙ ap suc z ∙ sym h.0))))
-    (λ h. omega arith)
+step_more n p q lp lq o e = grind arith
 
 -- ---- joining, from k back
 module _ (n e k : ℕ) (le : e < n) (lk : k < n) where
@@ -155,31 +116,10 @@ module _ (n e k : ℕ) (le : e < n) (lk : k < n) where
   E = dist n e
 
   pub slide_last : E k ≡ 1 → (i : ℕ) → i < n → i ≡ slide n e k i
-  slide_last m i l =
-      both (eq_cases (E i) 0)
-      (λ h. sym (slide_zero n e k i h.0))
-      (λ h. both (eq_cases (E i) 1)
-      (λ g. dist_inj n e le i k l lk (g.0 ∙ sym m) ∙ sym (slide_one n e k i g.0))
-      (λ g. sym (slide_out n e k i (omega arith) (omega arith))))
+  slide_last m i l = grind arith
 
   pub slide_step : 1 < E k → (i : ℕ) → i < n → trade (prev n k) k (slide n e (prev n k) i) ≡ slide n e k i
-  slide_step m i l =
-      let lk' = prev_lt n k lk in
-      let dk : suc (E (prev n k)) ≡ E k = dist_pred n e le k lk (omega arith) in
-      let s = slide n e (prev n k) in
-      let other : (j : ℕ) → E j ≢ E k → suc (E j) ≢ E k → trade (prev n k) k j ≡ j = λ j a b. trade_other (prev n k) k j (λ x. (let y = ap E x in omega arith)) (λ x. a (ap E x)) in
-      both (eq_cases (E i) 0)
-      (λ h. let a = slide_zero n e (prev n k) i h.0 in ap (trade (prev n k) k) a ∙ other i (omega arith) (omega arith) ∙ sym (slide_zero n e k i h.0))
-      (λ h. both (eq_cases (E i) 1)
-      (λ g. trade_first (prev n k) k (s i) (slide_one n e (prev n k) i g.0) ∙ sym (slide_one n e k i g.0))
-      (λ g. both (le_cases (E i) (E (prev n k)))
-      (λ f. let a = slide_in n e (prev n k) i (omega arith) f.0 in
-      let di = dist_pred n e le i l (omega arith) in
-      ap (trade (prev n k) k) a ∙ other (prev n i) (omega arith) (omega arith) ∙ sym (slide_in n e k i (omega arith) (omega arith)))
-      (λ f. let a = slide_out n e (prev n k) i (omega arith) f.0 in
-      ap (trade (prev n k) k) a ∙ both (eq_cases (E i) (E k))
-      (λ c. let ik = dist_inj n e le i k l lk c.0 in trade_second (prev n k) k i ik ∙ sym (slide_in n e k i (omega arith) (omega arith) ∙ ap (prev n) ik))
-      (λ c. other i c.0 (omega arith) ∙ sym (slide_out n e k i (omega arith) (omega arith))))))
+  slide_step m i l = grind (arith, prev_lt, dist_pred, trade_other, eq_cases, slide_zero, trade_first, slide_one, le_cases, slide_in, slide_out, dist_inj, trade_second)
 
 module _ (n : ℕ) (r : List ℕ) (e k : ℕ) (lr : length r ≡ n) (le : e < n) (lk : k < n) where
   pub join_last : dist n e k ≡ 1 → r ≡ joined n r e k
@@ -220,9 +160,6 @@ module _ {n : ℕ} {r₀ : List ℕ} {p q : ℕ} {r : List ℕ} {a b : ℕ} (w :
     same = reverse_step n r a b w.len w.la w.lb (step_more n a b w.la w.lb w.ab o) ∙ w.same;
   }
 
-  pub turn_falls : next n a ≢ b → dist n (next n a) (prev n b) < dist n a b
-  turn_falls o = let d = dist_inward n a b w.la w.lb (step_more n a b w.la w.lb w.ab o) in omega arith
-
 pub record Joining (n : ℕ) (r₀ : List ℕ) (e k : ℕ) (r : List ℕ) (b : ℕ) : Type 0 where
   pub len : length r ≡ n
   pub le : e < n
@@ -235,7 +172,7 @@ module _ {n : ℕ} {r₀ : List ℕ} {e k : ℕ} {r : List ℕ} {b : ℕ} (w : J
   join_met h = join_last n r e b w.len w.le w.lb (step_one n e b w.le w.lb w.eb (ap (next n) (sym h) ∙ next_prev n b w.lb)) ∙ w.same
 
   join_more : prev n b ≢ e → 1 < dist n e b
-  join_more h = step_more n e b w.le w.lb w.eb (λ x. h (ap (prev n) (sym x) ∙ prev_next n e w.le))
+  join_more h = grind arith
 
   pub join_goes : prev n b ≢ e → Joining n r₀ e k (swap r (prev n b) b) (prev n b)
   join_goes h = record {
@@ -247,4 +184,4 @@ module _ {n : ℕ} {r₀ : List ℕ} {e k : ℕ} {r : List ℕ} {b : ℕ} (w : J
   }
 
   pub join_falls : prev n b ≢ e → dist n e (prev n b) < dist n e b
-  join_falls h = let m = join_more h in let d = dist_pred n e w.le b w.lb (omega arith) in omega arith
+  join_falls h = grind arith

@@ -2,7 +2,7 @@
 use mathlib.Core.Path.{◌≡◌, refl, sym, ◌∙◌, ap}
 use mathlib.Core.Bool.{true, false}
 use mathlib.Core.List.{List, [], ◌∷◌}
-use mathlib.Core.Logic.{◌⊎◌, inl, inr, ◌≢◌}
+use mathlib.Core.Logic.{◌≢◌}
 use Prim.Native.Nat.{ℕ, ◌≤◌, ◌<◌}
 use native.Mathlib.Omega.{arith}
 use Rattle.polygon.specs.Change.{uncross, hoist, cut, lay}
@@ -10,37 +10,20 @@ use Rattle.index_edge.specs.Edge.{Edge, edge, edge_in}
 use Rattle.polygon.specs.Ring.{next, prev, at, IsRing}
 use Rattle.polygon.specs.Edges.{edge_at, edges}
 use Rattle.algebra.specs.Cases.{both, true_or_false, never}
-use Rattle.polygon.proofs.Positions.{next_cases, prev_cases, next_lt, prev_lt, next_prev, prev_next, next_not, prev_not}
-use Rattle.index_edge.proofs.Edges.{edge_cases, member_here, member_there, member_cases}
+use Rattle.polygon.proofs.Positions.{next_cases, prev_cases, next_lt, prev_lt, next_prev, prev_next, next_not}
+use Rattle.index_edge.proofs.Edges.{member_here, member_there, member_cases}
 use Rattle.polygon.proofs.RingEdges.{ends, member_edge}
 
--- ---- on three places or more
-module _ (n i : ℕ) (l : i < n) (three : 3 ≤ n) where
-  pub next_not_prev : next n i ≢ prev n i
-  next_not_prev e =
-      both (next_cases n i)
-      (λ h. both (prev_cases n i l) (λ g. omega arith) (λ g. omega arith))
-      (λ h. both (prev_cases n i l) (λ g. omega arith) (λ g. omega arith))
-
 pub next_inj : (n i j : ℕ) → i < n → j < n → next n i ≡ next n j → i ≡ j
-next_inj n i j li lj e = sym (prev_next n i li) ∙ ap (prev n) e ∙ prev_next n j lj
+next_inj n i j li lj e = grind arith
 
 -- ---- edges between positions
 module _ (n : ℕ) (r : List ℕ) (ring : IsRing n r) where
-  pub pair_cases : (x y u v : ℕ) → x < n → y < n → u < n → v < n → edge (at r x) (at r y) ≡ edge (at r u) (at r v) → ((x ≡ u) × (y ≡ v)) ⊎ ((x ≡ v) × (y ≡ u))
-  pair_cases x y u v lx ly lu lv e =
-      both (edge_cases (at r x) (at r y) (at r u) (at r v) e)
-      (λ h. inl (ring.apart x u lx lu h.0, ring.apart y v ly lv h.1))
-      (λ h. inr (ring.apart x v lx lv h.0, ring.apart y u ly lu h.1))
-
   module _ (three : 3 ≤ n) where
     -- ---- uncrossing
     module _ (a b : ℕ) (la : a < n) (lb : b < n) (ab : a ≢ b) where
       pub uncross_lay_differ : edge (at r a) (at r b) ≢ edge (at r (next n a)) (at r (next n b))
-      uncross_lay_differ e =
-          both (pair_cases a b (next n a) (next n b) la lb (next_lt n a la) (next_lt n b lb) e)
-          (λ h. next_not n a (omega arith) la (sym h.0))
-          (λ h. next_not_prev n a la three (sym h.1 ∙ sym (prev_next n b lb) ∙ ap (prev n) (sym h.0)))
+      uncross_lay_differ e = grind arith
 
       -- neither laid edge was there
       pub uncross_lay_new : next n a ≢ b → next n b ≢ a → (e : Edge) → edge_in e (lay n (uncross a b) r) ≡ true → edge_in e (edges n r) ≡ false
@@ -61,22 +44,13 @@ module _ (n : ℕ) (r : List ℕ) (ring : IsRing n r) where
     -- ---- hoisting
     module _ (k p : ℕ) (lk : k < n) (lp : p < n) (kp : k ≢ p) (kp' : k ≢ next n p) where
       pub hoist_lay_12 : edge (at r (prev n k)) (at r (next n k)) ≢ edge (at r p) (at r k)
-      hoist_lay_12 e =
-          both (pair_cases (prev n k) (next n k) p k (prev_lt n k lk) (next_lt n k lk) lp lk e)
-          (λ h. next_not n k (omega arith) lk h.1)
-          (λ h. prev_not n k (omega arith) lk h.0)
+      hoist_lay_12 e = grind arith
 
       pub hoist_lay_13 : edge (at r (prev n k)) (at r (next n k)) ≢ edge (at r k) (at r (next n p))
-      hoist_lay_13 e =
-          both (pair_cases (prev n k) (next n k) k (next n p) (prev_lt n k lk) (next_lt n k lk) lk (next_lt n p lp) e)
-          (λ h. prev_not n k (omega arith) lk h.0)
-          (λ h. next_not n k (omega arith) lk h.1)
+      hoist_lay_13 e = grind arith
 
       pub hoist_lay_23 : edge (at r p) (at r k) ≢ edge (at r k) (at r (next n p))
-      hoist_lay_23 e =
-          both (pair_cases p k k (next n p) lp lk lk (next_lt n p lp) e)
-          (λ h. kp (sym h.0))
-          (λ h. next_not n p (omega arith) lp (sym h.0))
+      hoist_lay_23 e = grind arith
 
       -- a laid edge that was there is one of the cut ones
       pub hoist_lay_cut : (e : Edge) → edge_in e (lay n (hoist k p) r) ≡ true → edge_in e (edges n r) ≡ true → edge_in e (cut n (hoist k p) r) ≡ true

@@ -9,97 +9,62 @@ use Rattle.algebra.specs.Cases.{le_cases, eq_cases, both, four}
 
 -- ---- what each function is, with no subtraction
 pub next_cases : (n i : ℕ) → ((suc i ≡ n) × (next n i ≡ 0)) ⊎ ((suc i ≢ n) × (next n i ≡ suc i))
-next_cases n i = elim (eq_cases (suc i) n) [ inl h ↦ inl (h.0, rw h.1) | inr h ↦ inr (h.0, rw h.1) ]
+next_cases n i = grind arith
 
 pub prev_cases : (n i : ℕ) → i < n → ((i ≡ 0) × (suc (prev n i) ≡ n)) ⊎ ((0 < i) × (suc (prev n i) ≡ i))
-prev_cases n i l = elim (eq_cases i 0) [ inl h ↦ inl (h.0, rw h.1 (omega arith)) | inr h ↦ inr (omega arith, rw h.1 (omega arith)) ]
+prev_cases n i l = grind arith
 
 pub dist_cases : (n p i : ℕ) → p < n → ((p ≤ i) × (dist n p i + p ≡ i)) ⊎ ((i < p) × (dist n p i + p ≡ i + n))
-dist_cases n p i l = elim (le_cases p i) [ inl h ↦ inl (h.0, rw h.1 (omega arith)) | inr h ↦ inr (h.0, rw h.1 (omega arith)) ]
-
-pub back_cases : (n q k : ℕ) → k < n → ((k ≤ q) × (back n q k + k ≡ q)) ⊎ ((q < k) × (back n q k + k ≡ q + n))
-back_cases n q k l = elim (le_cases k q) [ inl h ↦ inl (h.0, rw h.1 (omega arith)) | inr h ↦ inr (h.0, rw h.1 (omega arith)) ]
+dist_cases n p i l = grind arith
 
 pub back_lt : (n q k : ℕ) → q < n → k < n → back n q k < n
-back_lt n q k lq l = both (back_cases n q k l) (λ h. omega arith) (λ h. omega arith)
+back_lt n q k lq l = grind arith
 
 module _ (n i : ℕ) (l : i < n) where
   pub next_lt : next n i < n
-  next_lt = elim (next_cases n i) [ inl h ↦ omega arith | inr h ↦ omega arith ]
+  next_lt = grind arith
 
   pub prev_lt : prev n i < n
-  prev_lt = elim (prev_cases n i l) [ inl h ↦ omega arith | inr h ↦ omega arith ]
+  prev_lt = grind arith
 
   pub next_prev : next n (prev n i) ≡ i
-  next_prev = elim (prev_cases n i l) [ inl h ↦ elim (next_cases n (prev n i)) [ inl g ↦ omega arith | inr g ↦ omega arith ] | inr h ↦ elim (next_cases n (prev n i)) [ inl g ↦ omega arith | inr g ↦ omega arith ] ]
+  next_prev = grind arith
 
   pub prev_next : prev n (next n i) ≡ i
-  prev_next = elim (next_cases n i) [ inl h ↦ elim (prev_cases n (next n i) next_lt) [ inl g ↦ omega arith | inr g ↦ omega arith ] | inr h ↦ elim (prev_cases n (next n i) next_lt) [ inl g ↦ omega arith | inr g ↦ omega arith ] ]
+  prev_next = grind arith
 
 pub next_not : (n i : ℕ) → 2 ≤ n → i < n → next n i ≢ i
-next_not n i two l e = both (next_cases n i) (λ h. omega arith) (λ h. omega arith)
+next_not n i two l e = grind arith
 
 pub prev_not : (n i : ℕ) → 2 ≤ n → i < n → prev n i ≢ i
-prev_not n i two l e = both (prev_cases n i l) (λ h. omega arith) (λ h. omega arith)
+prev_not n i two l e = grind arith
 
 -- ---- positions counted from p: dist n p maps the positions onto 0 .. n - 1, and next is the next one there too
 module _ (n p : ℕ) (lp : p < n) where
   pub dist_self : dist n p p ≡ 0
-  dist_self = elim (dist_cases n p p lp) [ inl h ↦ omega arith | inr h ↦ omega arith ]
+  dist_self = grind arith
 
   pub dist_lt : (i : ℕ) → i < n → dist n p i < n
-  dist_lt i l = elim (dist_cases n p i lp) [ inl h ↦ omega arith | inr h ↦ omega arith ]
+  dist_lt i l = grind arith
 
   pub dist_inj : (i j : ℕ) → i < n → j < n → dist n p i ≡ dist n p j → i ≡ j
-  dist_inj i j li lj e =
-      elim (dist_cases n p i lp) [
-        | inl h ↦ elim (dist_cases n p j lp) [ inl g ↦ omega arith | inr g ↦ omega arith ]
-        | inr h ↦ elim (dist_cases n p j lp) [ inl g ↦ omega arith | inr g ↦ omega arith ]
-      ]
+  dist_inj i j li lj e = grind arith
 
   pub dist_next : (i : ℕ) → i < n → dist n p (next n i) ≡ next n (dist n p i)
-  dist_next i l =
-      both (next_cases n i)
-      (λ h. both (dist_cases n p i lp)
-      (λ g. both (dist_cases n p (next n i) lp)
-      (λ f. both (next_cases n (dist n p i)) (λ k. omega arith) (λ k. omega arith))
-      (λ f. both (next_cases n (dist n p i)) (λ k. omega arith) (λ k. omega arith)))
-      (λ g. omega arith))
-      (λ h. both (dist_cases n p i lp)
-      (λ g. both (dist_cases n p (next n i) lp)
-      (λ f. both (next_cases n (dist n p i)) (λ k. omega arith) (λ k. omega arith))
-      (λ f. both (next_cases n (dist n p i)) (λ k. omega arith) (λ k. omega arith)))
-      (λ g. both (dist_cases n p (next n i) lp)
-      (λ f. both (next_cases n (dist n p i)) (λ k. omega arith) (λ k. omega arith))
-      (λ f. both (next_cases n (dist n p i)) (λ k. omega arith) (λ k. omega arith))))
+  dist_next i l = grind arith
 
   pub dist_suc : (i : ℕ) → i < n → suc (dist n p i) < n → dist n p (next n i) ≡ suc (dist n p i)
-  dist_suc i l h = both (next_cases n (dist n p i)) (λ g. omega arith) (λ g. dist_next i l ∙ g.1)
+  dist_suc i l h = grind arith
 
   pub dist_wrap : (i : ℕ) → i < n → suc (dist n p i) ≡ n → dist n p (next n i) ≡ 0
-  dist_wrap i l h = both (next_cases n (dist n p i)) (λ g. dist_next i l ∙ g.1) (λ g. absurd (omega arith))
+  dist_wrap i l h = grind arith
 
   pub dist_pred : (i : ℕ) → i < n → 0 < dist n p i → suc (dist n p (prev n i)) ≡ dist n p i
-  dist_pred i l h =
-      let lj = prev_lt n i l in
-      let e : dist n p i ≡ next n (dist n p (prev n i)) = ap (dist n p) (sym (next_prev n i l)) ∙ dist_next (prev n i) lj in
-      both (next_cases n (dist n p (prev n i))) (λ g. absurd (omega arith)) (λ g. omega arith)
+  dist_pred i l h = grind arith
 
   -- only p is no step from p
   pub dist_zero : (i : ℕ) → i < n → dist n p i ≡ 0 → i ≡ p
   dist_zero i l h = dist_inj i p l lp (h ∙ sym dist_self)
-
-  -- k places back from q, where that does not pass p
-  pub dist_back : (q k : ℕ) → q < n → k ≤ dist n p q → dist n p (back n q k) + k ≡ dist n p q
-  dist_back q k lq l =
-      let lk : k < n = omega (arith, dist_lt q lq) in
-      both (back_cases n q k lk)
-      (λ h. both (dist_cases n p q lp)
-      (λ g. both (dist_cases n p (back n q k) lp) (λ f. omega arith) (λ f. omega arith))
-      (λ g. both (dist_cases n p (back n q k) lp) (λ f. omega arith) (λ f. omega arith)))
-      (λ h. both (dist_cases n p q lp)
-      (λ g. both (dist_cases n p (back n q k) lp) (λ f. omega arith) (λ f. omega arith))
-      (λ g. both (dist_cases n p (back n q k) lp) (λ f. omega arith) (λ f. omega arith)))
 
 -- ---- reversing: the places from p on to q change ends
 pub flip_out : (n p q i : ℕ) → dist n p q < dist n p i → flip n p q i ≡ i
@@ -107,10 +72,10 @@ flip_out n p q i h = rw (lt-leb (dist n p i) (dist n p q) h)
 
 module _ (n p q : ℕ) (lp : p < n) (lq : q < n) where
   pub flip_in : (i : ℕ) → dist n p i ≤ dist n p q → dist n p (flip n p q i) + dist n p i ≡ dist n p q
-  flip_in i h = rw (le-leb (dist n p i) (dist n p q) h) (dist_back n p lp q (dist n p i) lq h)
+  flip_in i h = grind arith
 
   pub flip_lt : (i : ℕ) → i < n → flip n p q i < n
-  flip_lt i l = both (le_cases (dist n p i) (dist n p q)) (λ h. rw h.1 (back_lt n q (dist n p i) lq (dist_lt n p lp i l))) (λ h. rw h.1 l)
+  flip_lt i l = grind arith
 
   pub flip_flip : (i : ℕ) → i < n → flip n p q (flip n p q i) ≡ i
   flip_flip i l =
@@ -127,7 +92,7 @@ module _ (n e k i : ℕ) where
   slide_zero h = rw (eq-eqb (dist n e i) 0 h)
 
   pub slide_one : dist n e i ≡ 1 → slide n e k i ≡ k
-  slide_one h = rw (ne_eqb (dist n e i) 0 (omega arith), eq-eqb (dist n e i) 1 h)
+  slide_one h = grind arith
 
   pub slide_in : 1 < dist n e i → dist n e i ≤ dist n e k → slide n e k i ≡ prev n i
   slide_in h g = rw (ne_eqb (dist n e i) 0 (omega arith), ne_eqb (dist n e i) 1 (omega arith), le-leb (dist n e i) (dist n e k) g)
@@ -150,12 +115,7 @@ module _ (n e k : ℕ) (le : e < n) (lk : k < n) where
       (λ f. inr (inr (inr (f.0, ap (dist n e) (slide_out n e k i (omega arith) f.0)))))))
 
   pub slide_lt : (i : ℕ) → i < n → slide n e k i < n
-  slide_lt i l =
-      both (eq_cases (dist n e i) 0)
-      (λ h. rw h.1 l)
-      (λ h. both (eq_cases (dist n e i) 1)
-      (λ g. rw (h.1, g.1) lk)
-      (λ g. both (le_cases (dist n e i) (dist n e k)) (λ f. rw (h.1, g.1, f.1) (prev_lt n i l)) (λ f. rw (h.1, g.1, f.1) l)))
+  slide_lt i l = grind arith
 
   pub slide_inj : 0 < dist n e k → (i j : ℕ) → i < n → j < n → slide n e k i ≡ slide n e k j → i ≡ j
   slide_inj m i j li lj p =

@@ -1,8 +1,8 @@
 -- Rings and their edges: the point at a position, membership, and that edges at different positions differ.
-use mathlib.Core.Path.{◌≡◌, refl, sym, ◌∙◌, ap, ap₂}
+use mathlib.Core.Path.{◌≡◌, refl, sym, ◌∙◌, ap}
 use mathlib.Core.Bool.{true, false}
 use mathlib.Core.List.{List, map}
-use mathlib.Core.Logic.{◌⊎◌, inl, inr, ◌≢◌}
+use mathlib.Core.Logic.{◌⊎◌, ◌≢◌}
 use Prim.Native.Nat.{ℕ, zero, suc, ◌+◌, ◌≤◌, ◌<◌}
 use native.Mathlib.Omega.{arith}
 use lib.ListN.{length, length-map}
@@ -11,8 +11,8 @@ use Rattle.algebra.specs.Ranges.{up_from, up_from_length, table_at}
 use Rattle.polygon.specs.Ring.{next, dist, at, moved, flip, reversed, slide, joined, IsRing}
 use Rattle.polygon.specs.Edges.{edge_at, edges, IsEdge}
 use Rattle.algebra.specs.Cases.{both, eq_cases, never, or_cases, or_right}
-use Rattle.index_edge.proofs.Edges.{edge_sym, edge_cases, eq_edge_true, eq_edge_of}
-use Rattle.polygon.proofs.Positions.{next_cases, next_lt, flip_lt, flip_inj, dist_zero, slide_lt, slide_inj}
+use Rattle.index_edge.proofs.Edges.{edge_sym, eq_edge_true}
+use Rattle.polygon.proofs.Positions.{next_lt, flip_lt, flip_inj, dist_zero, slide_lt, slide_inj}
 
 -- ---- a moved ring
 module _ (n : ℕ) (f : ℕ → ℕ) (r : List ℕ) where
@@ -23,11 +23,7 @@ module _ (n : ℕ) (f : ℕ → ℕ) (r : List ℕ) where
   moved_length = length-map (up_from 0 n) (λ j. at r (f j)) ∙ up_from_length 0 n
 
   pub moved_ring : IsRing n r → ((i : ℕ) → i < n → f i < n) → ((i j : ℕ) → i < n → j < n → f i ≡ f j → i ≡ j) → IsRing n (moved n f r)
-  moved_ring ring fl fi = record {
-    len = moved_length;
-    below = λ i l. rw (moved_at i l) (ring.below (f i) (fl i l));
-    apart = λ i j li lj e. fi i j li lj (ring.apart (f i) (f j) (fl i li) (fl j lj) (sym (moved_at i li) ∙ e ∙ moved_at j lj));
-  }
+  moved_ring ring fl fi = grind (arith, moved_length, moved_at)
 
 pub reversed_ring : (n : ℕ) (r : List ℕ) (p q : ℕ) → p < n → q < n → IsRing n r → IsRing n (reversed n r p q)
 reversed_ring n r p q lp lq ring = moved_ring n (flip n p q) r ring (flip_lt n p q lp lq) (flip_inj n p q lp lq)
@@ -38,10 +34,10 @@ joined_ring n r e k le lk ke ring = moved_ring n (slide n e k) r ring (slide_lt 
 -- the edge at i of a moved ring lies between the points that were at x and y
 module _ (n : ℕ) (f : ℕ → ℕ) (r : List ℕ) (i : ℕ) (l : i < n) (x y : ℕ) where
   pub moved_edge : f i ≡ x → f (next n i) ≡ y → edge_at n (moved n f r) i ≡ edge (at r x) (at r y)
-  moved_edge p q = ap₂ edge (moved_at n f r i l ∙ ap (at r) p) (moved_at n f r (next n i) (next_lt n i l) ∙ ap (at r) q)
+  moved_edge p q = grind (arith, moved_at, next_lt)
 
   pub moved_edge_back : f i ≡ y → f (next n i) ≡ x → edge_at n (moved n f r) i ≡ edge (at r x) (at r y)
-  moved_edge_back p q = ap₂ edge (moved_at n f r i l ∙ ap (at r) p) (moved_at n f r (next n i) (next_lt n i l) ∙ ap (at r) q) ∙ edge_sym (at r y) (at r x)
+  moved_edge_back p q = grind (arith, moved_at, next_lt, edge_sym)
 
 -- e is in a table
 pub in_table : (e : Edge) (g : ℕ → Edge) (s n : ℕ) → edge_in e (map g (up_from s n)) ≡ true → (i : ℕ) × (i < n) × (g (s + i) ≡ e)
@@ -53,7 +49,7 @@ in_table e g s (suc n) t =
 
 pub to_table : (e : Edge) (g : ℕ → Edge) (s n i : ℕ) → i < n → g (s + i) ≡ e → edge_in e (map g (up_from s n)) ≡ true
 to_table e g s zero i l p = absurd (omega arith)
-to_table e g s (suc n) zero l p = rw (eq_edge_of e (g s) (sym p ∙ ap g (omega arith)))
+to_table e g s (suc n) zero l p = grind arith
 to_table e g s (suc n) (suc i) l p = or_right (eq_edge e (g s)) _ (to_table e g (suc s) n i (omega arith) (ap g (omega arith) ∙ p))
 
 pub member_edge : (n : ℕ) (r : List ℕ) (e : Edge) → edge_in e (edges n r) ≡ true → IsEdge n r e
@@ -64,16 +60,12 @@ edge_member n r e (i, l, p) = to_table e (edge_at n r) 0 n i l (ap (edge_at n r)
 
 -- ---- edges at different positions differ
 pub next_next : (n i j : ℕ) → 3 ≤ n → i < n → i ≡ next n j → j ≡ next n i → ⊥
-next_next n i j three l p q = both (next_cases n i) (λ h. both (next_cases n j) (λ g. omega arith) (λ g. omega arith)) (λ h. both (next_cases n j) (λ g. omega arith) (λ g. omega arith))
+next_next n i j three l p q = grind arith
 
 module _ (n : ℕ) (r : List ℕ) (ring : IsRing n r) where
   -- the two ends of an edge, by their positions
   pub ends : (x y j : ℕ) → x < n → y < n → j < n → edge (at r x) (at r y) ≡ edge_at n r j → ((x ≡ j) × (y ≡ next n j)) ⊎ ((x ≡ next n j) × (y ≡ j))
-  ends x y j lx ly lj e =
-      let lj' = next_lt n j lj in
-      both (edge_cases _ _ _ _ e)
-      (λ h. inl (ring.apart x j lx lj h.0, ring.apart y (next n j) ly lj' h.1))
-      (λ h. inr (ring.apart x (next n j) lx lj' h.0, ring.apart y j ly lj h.1))
+  ends x y j lx ly lj e = grind arith
 
   pub edges_differ : 3 ≤ n → (i j : ℕ) → i < n → j < n → edge_at n r i ≡ edge_at n r j → i ≡ j
-  edges_differ three i j li lj e = both (ends i (next n i) j li (next_lt n i li) lj e) (λ h. h.0) (λ h. absurd (next_next n i j three li h.0 (sym h.1)))
+  edges_differ three i j li lj e = grind arith

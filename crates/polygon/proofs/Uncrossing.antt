@@ -10,7 +10,7 @@ use Rattle.index_edge.specs.Edge.{Edge, edge, edge_in}
 use Rattle.polygon.specs.Ring.{next, dist, at, flip, reversed, IsRing}
 use Rattle.polygon.specs.Edges.{edge_at, edges}
 use Rattle.algebra.specs.Cases.{both, le_cases, eq_cases, never}
-use Rattle.polygon.proofs.Positions.{next_cases, next_lt, dist_self, dist_lt, dist_inj, dist_next, dist_suc, dist_zero, flip_lt, flip_in, flip_out, flip_flip}
+use Rattle.polygon.proofs.Positions.{next_lt, dist_self, dist_lt, dist_inj, dist_suc, dist_zero, flip_lt, flip_in, flip_out, flip_flip}
 use Rattle.polygon.proofs.RingEdges.{moved_edge, moved_edge_back, edges_differ, edge_member}
 use Rattle.polygon.proofs.EdgesAfter.{EdgesAfter, edges_after}
 use Rattle.index_edge.proofs.Edges.{member_here, member_there, member_cases, not_member, not_head, not_tail}
@@ -59,17 +59,13 @@ module _ (n : ℕ) (r : List ℕ) (a b : ℕ) (la : a < n) (lb : b < n) (ab : a 
   r' = reversed n r (next n a) b
 
   dist_a : suc (D a) ≡ n
-  dist_a = both (next_cases n (D a)) (λ h. h.0) (λ h. absurd (omega (arith, dist_next n (next n a) lp a la, dist_self n (next n a) lp)))
+  dist_a = grind arith
 
   dist_b : suc (D b) < n
-  dist_b = both (le_cases (suc (suc (D b))) n) (λ h. h.0) (λ h. absurd (ab (dist_inj n (next n a) lp a b la lb (omega (arith, dist_a, dist_lt n (next n a) lp b lb)))))
+  dist_b = grind arith
 
   uncross_outside : (i : ℕ) → i < n → i ≢ a → D b < D i → edge_at n r' i ≡ edge_at n r i
-  uncross_outside i l ia h =
-      let p = next n a in
-      let di : suc (D i) < n = both (le_cases (suc (suc (D i))) n) (λ h. h.0) (λ h. absurd (ia (dist_inj n p lp i a l la (omega (arith, dist_a, dist_lt n p lp i l))))) in
-      let s : D (next n i) ≡ suc (D i) = dist_suc n p lp i l di in
-      moved_edge n f r i l i (next n i) (flip_out n p b i h) (flip_out n p b (next n i) (omega arith))
+  uncross_outside i l ia h = grind (arith, lp, le_cases, dist_inj, dist_a, dist_lt, dist_suc, moved_edge, flip_out)
 
   -- an edge that is not cut is still there: r has at some j what r' has at i, and the other way round
   uncross_kept : (i : ℕ) → i < n → i ≢ a → i ≢ b → (j : ℕ) × (j < n) × (j ≢ a) × (j ≢ b) × (edge_at n r' i ≡ edge_at n r j) × (edge_at n r' j ≡ edge_at n r i)

@@ -1,13 +1,13 @@
 -- The whole loop reversed is a ring with the same edges.
-use mathlib.Core.Path.{◌≡◌, refl, sym, ◌∙◌, ap}
+use mathlib.Core.Path.{◌≡◌, sym, ◌∙◌, ap}
 use mathlib.Core.List.{List}
 use Prim.Native.Nat.{ℕ, ◌+◌, ◌-◌, ◌<◌}
 use native.Mathlib.Omega.{arith}
-use Rattle.index_edge.specs.Edge.{Edge, edge, edge_in}
-use Rattle.algebra.specs.Cases.{both, same_test}
-use Rattle.polygon.specs.Ring.{next, prev, dist, at, flip, turned_round, IsRing}
+use Rattle.index_edge.specs.Edge.{Edge, edge_in}
+use Rattle.algebra.specs.Cases.{same_test}
+use Rattle.polygon.specs.Ring.{next, prev, at, flip, turned_round, IsRing}
 use Rattle.polygon.specs.Edges.{edge_at, edges}
-use Rattle.polygon.proofs.Positions.{next_cases, prev_cases, dist_cases, next_lt, prev_lt, next_prev, prev_next, flip_in, flip_lt, flip_flip}
+use Rattle.polygon.proofs.Positions.{next_cases, prev_cases, next_lt, prev_lt, next_prev, prev_next, flip_lt}
 use Rattle.polygon.proofs.RingEdges.{moved_at, moved_edge_back, reversed_ring, member_edge, edge_member}
 
 module _ (n : ℕ) (some : 0 < n) where
@@ -15,35 +15,21 @@ module _ (n : ℕ) (some : 0 < n) where
   abbrev pub whole : ℕ → ℕ
   whole = flip n 0 (n - 1)
 
-  dist_0 : (i : ℕ) → dist n 0 i ≡ i
-  dist_0 i = both (dist_cases n 0 i some) (λ h. omega arith) (λ h. absurd (omega arith))
-
   pub whole_lt : (i : ℕ) → i < n → whole i < n
   whole_lt i l = flip_lt n 0 (n - 1) some (omega arith) i l
 
   pub whole_whole : (i : ℕ) → i < n → whole (whole i) ≡ i
-  whole_whole i l = flip_flip n 0 (n - 1) some (omega arith) i l
+  whole_whole i l = grind arith
 
   pub whole_sum : (i : ℕ) → i < n → whole i + i ≡ n - 1
-  whole_sum i l =
-      omega (arith, dist_0 i, dist_0 (n - 1), dist_0 (whole i), flip_in n 0 (n - 1) some (omega arith) i (omega (arith, dist_0 i, dist_0 (n - 1))))
+  whole_sum i l = grind arith
 
   -- what was next comes before
   pub whole_next : (i : ℕ) → i < n → whole (next n i) ≡ prev n (whole i)
-  whole_next i l =
-      let a = whole_sum i l in
-      let b = whole_sum (next n i) (next_lt n i l) in
-      both (next_cases n i)
-      (λ h. both (prev_cases n (whole i) (whole_lt i l)) (λ g. omega arith) (λ g. omega arith))
-      (λ h. both (prev_cases n (whole i) (whole_lt i l)) (λ g. omega arith) (λ g. omega arith))
+  whole_next i l = grind (arith, whole_sum, next_lt, next_cases, prev_cases, whole_lt)
 
   pub whole_prev : (i : ℕ) → i < n → whole (prev n i) ≡ next n (whole i)
-  whole_prev i l =
-      let a = whole_sum i l in
-      let b = whole_sum (prev n i) (prev_lt n i l) in
-      both (prev_cases n i l)
-      (λ h. both (next_cases n (whole i)) (λ g. omega arith) (λ g. omega arith))
-      (λ h. both (next_cases n (whole i)) (λ g. omega arith) (λ g. omega arith))
+  whole_prev i l = grind (arith, whole_sum, prev_lt, prev_cases, next_cases)
 
   module _ (r : List ℕ) where
     pub back_at : (i : ℕ) → i < n → at (turned_round n r) i ≡ at r (whole i)
@@ -53,9 +39,7 @@ module _ (n : ℕ) (some : 0 < n) where
     back_ring ring = reversed_ring n r 0 (n - 1) some (omega arith) ring
 
     pub back_edge : (i : ℕ) → i < n → edge_at n (turned_round n r) i ≡ edge_at n r (prev n (whole i))
-    back_edge i l =
-        moved_edge_back n whole r i l (prev n (whole i)) (whole i) refl (whole_next i l)
-        ∙ ap (λ y. edge (at r (prev n (whole i))) (at r y)) (sym (next_prev n (whole i) (whole_lt i l)))
+    back_edge i l = grind (arith, moved_edge_back, whole_next, next_prev, whole_lt)
 
     -- the same edges
     pub back_edges : (e : Edge) → edge_in e (edges n (turned_round n r)) ≡ edge_in e (edges n r)

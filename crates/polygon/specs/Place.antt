@@ -1,9 +1,8 @@
--- What a `Position` and a `RingFault` of the code stand for.
-use Rattle.std.specs.Prelude.{◌≡◌, ◌≢◌, ℕ, ◌<◌}
+-- What a `Position` and a fault of the code stand for.
+use Rattle.std.specs.Prelude.{◌≡◌, ◌≢◌, ℕ, ◌<◌, Option as Found, Some, None}
 use Rattle.std.proofs.Math.Option.{Option, none, some}
 use Rattle.polygon.specs.declared.position.Position.{Position}
-use Rattle.polygon.specs.declared.polygon.RingFault.{RingFault}
-use Rattle.polygon.specs.declared.polygon.RingFault.TheVariants.{At, Nowhere}
+use Rattle.polygon.specs.declared.position.PositionId.{PositionId}
 
 -- position i of a ring of n points
 abbrev pub position : ℕ → ℕ → Position
@@ -17,6 +16,6 @@ pub record Apart (p q : Position) : Type 0 where
   pub differ : p.id.0 ≢ q.id.0
 
 -- the position at fault, or none
-abbrev pub fault_of : RingFault → Option ℕ
-fault_of (At position) = some position.0
-fault_of Nowhere = none
+abbrev pub fault_of : Found PositionId → Option ℕ
+fault_of (Some position) = some position.0
+fault_of None = none

@@ -1,28 +1,14 @@
 // Places on a ring (polygon.rs, `PositionId` and `Position`).
-ghost use Rattle.std.specs.Prelude.{◌≡◌, ◌<◌, eqb, ltb};
+ghost use Rattle.std.specs.Prelude.{◌≡◌, ◌<◌};
 ghost use Rattle.polygon.specs.Ring.{next, prev};
 ghost use Rattle.polygon.specs.Place.{position};
 
 // A ring position. It is taken apart only where a slice is indexed.
-#[derive(Clone, Copy)]
+#[derive(Clone, Copy, Debug, PartialEq, Eq, PartialOrd, Ord)]
 pub struct PositionId(pub u16);
 
-impl PositionId {
-    pub fn eq(self, other: PositionId) -> bool
-        ensures { result ≡ eqb self.0 other.0 }
-    {
-        self.0 == other.0
-    }
-
-    pub fn lt(self, other: PositionId) -> bool
-        ensures { result ≡ ltb self.0 other.0 }
-    {
-        self.0 < other.0
-    }
-}
-
 // A ring position with the size of its ring, so that it can move on and back.
-#[derive(Clone, Copy)]
+#[derive(Clone, Copy, Debug, PartialEq, Eq)]
 pub struct Position {
     pub id: PositionId,
     pub size: u16,
@@ -35,16 +21,10 @@ impl Position {
         ensures { result ≡ position self.size (next self.size self.id.0) }
     {
         let i = self.id.0;
-        if i == self.size - 1 {
-            Position {
-                id: PositionId(0),
-                size: self.size,
-            }
-        } else {
-            Position {
-                id: PositionId(i + 1),
-                size: self.size,
-            }
+        let id = if i == self.size - 1 { 0 } else { i + 1 };
+        Position {
+            id: PositionId(id),
+            ..self
         }
     }
 
@@ -54,16 +34,10 @@ impl Position {
         ensures { result ≡ position self.size (prev self.size self.id.0) }
     {
         let i = self.id.0;
-        if i == 0 {
-            Position {
-                id: PositionId(self.size - 1),
-                size: self.size,
-            }
-        } else {
-            Position {
-                id: PositionId(i - 1),
-                size: self.size,
-            }
+        let id = if i == 0 { self.size - 1 } else { i - 1 };
+        Position {
+            id: PositionId(id),
+            ..self
         }
     }
 
@@ -84,23 +58,17 @@ impl Position {
     }
 }
 
-// The place after i, and before it, on a ring of n: for loops over places, which count from 0.
+// The place after i, and before it, on a ring of n: for loops over places, which count from 0. By way of `Position` it would be two casts and a struct.
 pub fn next_place(n: usize, i: usize) -> usize
     requires { i < n }
     ensures { (result ≡ next n i) × (result < n) }
 {
-    if i + 1 == n {
-        return 0;
-    }
-    i + 1
+    if i + 1 == n { 0 } else { i + 1 }
 }
 
 pub fn prev_place(n: usize, i: usize) -> usize
     requires { i < n }
     ensures { (result ≡ prev n i) × (result < n) }
 {
-    if i == 0 {
-        return n - 1;
-    }
-    i - 1
+    if i == 0 { n - 1 } else { i - 1 }
 }

@@ -1,11 +1,7 @@
 -- `index_part` meets its contract: after each write one point more is found, until none is left out.
-use Prim.Native.Nat.{◌-◌, ◌≤◌}
-use lib.ListN.{length}
+use Rattle.std.proofs.Common.{length}
 use Rattle.polygon.specs.Ring.{IndexedBut}
 use Rattle.polygon.proofs.polygon.index_part.Given as goal
 
 abbrev pub invariant-loop-i : goal.invariant-loop-i
-invariant-loop-i l = (l.i ≤ l.to) × IndexedBut (length l.ring) l.ring l.index l.i l.to
-
-abbrev pub decreases-loop-i : goal.decreases-loop-i
-decreases-loop-i l = l.to - l.i
+invariant-loop-i l = IndexedBut (length l.ring) l.ring l.index l.i l.to
