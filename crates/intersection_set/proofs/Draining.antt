@@ -1,20 +1,18 @@
 -- What a loop of the program needs: the removal of all of an edge stops by itself, and a removal keeps the reverse of the dense order.
 use mathlib.Core.Path.{◌≡◌, refl, sym, ap, ◌∙◌}
 use mathlib.Core.Logic.{◌≢◌}
-use mathlib.Core.Bool.{true}
-use mathlib.Core.List.{List, [], ◌∷◌, ◌++◌, map}
+use mathlib.Core.List.{List, [], ◌∷◌, ◌++◌}
 use Prim.Native.Nat.{ℕ, zero, suc, ◌-◌, ◌≤◌, ◌<◌}
 use native.Mathlib.Omega.{arith}
 use borrow.Author.Tests.{eqb-true, eqb-false}
 use lib.Dec.{eqb}
-use lib.ListN.{length, get_or, take, set, get_or-append}
+use lib.ListN.{length, get_or, set, get_or-append}
 use lib.Seq.{get_or-set_same, get_or-set_other, get_or-take, get_or-append_seam}
-use Rattle.algebra.specs.Counting.{count_le, count_length, count_at, length_snoc}
+use Rattle.algebra.specs.Counting.{length_snoc}
 use Rattle.index_edge.specs.Edge.{Edge}
-use Rattle.intersection_set.specs.Store.{Rec, Store, Found, nothing, at_place, no_rec, swap_remove, newest_from, remove_found, remove_all_fuel, remove_all, names, grown}
+use Rattle.intersection_set.specs.Store.{Rec, Store, Found, nothing, no_rec, swap_remove, newest_from, remove_found, remove_all_fuel, grown}
 pub use Rattle.intersection_set.specs.Holds.{Reverse}
 use Rattle.algebra.specs.Cases.{both, true_or_false}
-use Rattle.intersection_set.proofs.Records.{Newest, newest_is, fuel_named}
 use Rattle.intersection_set.proofs.Slots.{Numbered, swap_remove_length, slots_differ, slot_below}
 
 -- ---- removing while there is one to remove
@@ -23,35 +21,6 @@ stays zero e s h = refl
 stays (suc k) e s h =
     let z : remove_found (newest_from e 0 s.dense) s ≡ s = ap (λ (f : Found). remove_found f s) h in
     ap (remove_all_fuel k e) z ∙ stays k e s h
-
-more_fuel : (i j : ℕ) (e : Edge) (s : Store) → newest_from e 0 (remove_all_fuel i e s).dense ≡ nothing → i ≤ j → remove_all_fuel j e s ≡ remove_all_fuel i e s
-more_fuel zero j e s h u = stays j e s h
-more_fuel (suc i) zero e s h u = absurd (omega arith)
-more_fuel (suc i) (suc j) e s h u = more_fuel i j e (remove_found (newest_from e 0 s.dense) s) h (omega arith)
-
--- the loop `while one is found, remove it`, after k turns
-pub removal_goes_on : (k : ℕ) (e : Edge) (s : Store) → remove_all_fuel (suc k) e s ≡ remove_found (newest_from e 0 (remove_all_fuel k e s).dense) (remove_all_fuel k e s)
-removal_goes_on zero e s = refl
-removal_goes_on (suc k) e s = removal_goes_on k e (remove_found (newest_from e 0 s.dense) s)
-
-pub removal_stops : (k : ℕ) (e : Edge) (s : Store) → newest_from e 0 (remove_all_fuel k e s).dense ≡ nothing → k ≤ length s.dense → remove_all e s ≡ remove_all_fuel k e s
-removal_stops k e s h u = more_fuel k (length s.dense) e s h u
-
--- while one is found, fewer turns were made than records live
-pub removal_measure : (k : ℕ) (e : Edge) (s : Store) → (newest_from e 0 (remove_all_fuel k e s).dense ≡ nothing → ⊥) → k < length s.dense
-removal_measure k e s h =
-    go (newest_from e 0 (remove_all_fuel k e s).dense) h (newest_is e 0 (remove_all_fuel k e s).dense)
-  where
-    go : (f : Found) → (f ≡ nothing → ⊥) → Newest e 0 (remove_all_fuel k e s).dense f → k < length s.dense
-    go nothing h t = absurd (h refl)
-    go (at_place j r) h t =
-        omega (
-          arith,
-          count_at (names e) (remove_all_fuel k e s).dense t.place no_rec t.inside (rw t.there t.named),
-          fuel_named k e s,
-          count_le (names e) (λ _. true) (λ _ _. refl) s.dense,
-          count_length s.dense,
-        )
 
 -- ---- the reverse of the dense order: the place of each live slot
 pub reverse_push : (d : List Rec) (r : Rec) (v : List ℕ) → r.slot < length v → ((j : ℕ) → j < length d → (get_or d j no_rec).slot ≢ r.slot) → Reverse d v → Reverse (d ++ (r ∷ [])) (set v r.slot (length d))
@@ -92,19 +61,3 @@ reverse_remove s k v pool h room rev j i =
     ap (λ (q : Rec). get_or (set v x k) q.slot 0) (swap_other d k j h jz (eqb-false j k u))
     ∙ get_or-set_other v x (get_or d j no_rec).slot k 0 (slots_differ s pool j z jz zd)
     ∙ rev j (omega arith))
-
--- ---- the dense slots themselves
-module _ {A B : Type 0} (f : A → B) where
-  map_set : (l : List A) (i : ℕ) (a : A) → map f (set l i a) ≡ set (map f l) i (f a)
-  map_set [] i a = refl
-  map_set (x ∷ l) zero a = refl
-  map_set (x ∷ l) (suc i) a = ap (λ (m : List B). f x ∷ m) (map_set l i a)
-
-  map_take : (n : ℕ) (l : List A) → map f (take n l) ≡ take n (map f l)
-  map_take zero l = refl
-  map_take (suc n) [] = refl
-  map_take (suc n) (x ∷ l) = ap (λ (m : List B). f x ∷ m) (map_take n l)
-
-pub dense_slots_swap : (f : Rec → ℕ) (d : List Rec) (k : ℕ) → map f (swap_remove d k) ≡ take (length d - 1) (set (map f d) k (f (get_or d (length d - 1) no_rec)))
-dense_slots_swap f d k =
-    map_take f (length d - 1) (set d k (get_or d (length d - 1) no_rec)) ∙ ap (take (length d - 1)) (map_set f d k (get_or d (length d - 1) no_rec))

@@ -14,10 +14,9 @@ use Rattle.algebra.specs.Cases.{both, eq_cases}
 use Rattle.index_edge.specs.Edge.{Edge, eq_edge}
 use Rattle.index_edge.proofs.Edges.{eq_edge_refl, eq_edge_sym}
 use Rattle.intersection_set.specs.Lists.{none, head_place}
-use Rattle.intersection_set.specs.Pool.{Ends, ends, no_ends, Pair, pair, no_pair, Links, Order, Pool, Buffers, counts_of, take_slot, dense_push, dense_remove, end0, end1, put_end, set_end, head_at, link_front, set_head, unlink_from, put_edges, put_ends, clear_ends, pool_push, pool_remove, pool_remove_all}
+use Rattle.intersection_set.specs.Pool.{Taken, Ends, ends, no_ends, Pair, pair, no_pair, Links, Order, Pool, counts_of, take_slot, dense_push, dense_remove, end0, end1, put_end, set_end, head_at, link_front, set_head, unlink_from, put_edges, put_ends, clear_ends, pool_push, pool_remove, pool_remove_all}
 use Rattle.intersection_set.specs.Within.{Proper, TakeOk, AppendOk, EndOk, HeadOk, UnlinkOk, Sized, Good, PushOk, RemoveOk, Drained}
 use Rattle.intersection_set.specs.declared.utils.Counts.{Counts}
-use Rattle.intersection_set.specs.declared.utils.Taken.{Taken}
 use Rattle.intersection_set.proofs.HeadPlaces.{placed, head_below}
 
 -- 256 points have at most 65,280 records
@@ -32,13 +31,13 @@ pub place_lt : (n : ℕ) (e : Edge) → Proper n e → head_place n e < n * (n -
 place_lt n e ok = head_below n e (placed ok)
 
 -- ---- the slot that a push takes is in range
-pub slot_lt : (n : ℕ) (p : Pool) → Good n p → p.counts.live < n * (n - 1) → (take_slot p.counts p.free).slot.0 < n * (n - 1)
+pub slot_lt : (n : ℕ) (p : Pool) → Good n p → p.counts.live < n * (n - 1) → (take_slot p.counts p.free).slot < n * (n - 1)
 unfolding take_slot
 slot_lt n p g room = go (eqb p.counts.freed 0) refl
   where
     go : (b : Bool) → eqb p.counts.freed 0 ≡ b → (cond {A = Taken} b
-        (record { slot = record { 0 = p.counts.grown }; counts = counts_of (p.counts.live + 1) (p.counts.grown + 1) 0 })
-        (record { slot = record { 0 = get_or p.free (p.counts.freed - 1) 0 }; counts = counts_of (p.counts.live + 1) p.counts.grown (p.counts.freed - 1) })).slot.0 < n * (n - 1)
+        (record { slot = p.counts.grown; counts = counts_of (p.counts.live + 1) (p.counts.grown + 1) 0 })
+        (record { slot = get_or p.free (p.counts.freed - 1) 0; counts = counts_of (p.counts.live + 1) p.counts.grown (p.counts.freed - 1) })).slot < n * (n - 1)
     go true h = let z = eqb-true p.counts.freed 0 h in let s = g.split in omega arith
     go false h = let z = eqb-false p.counts.freed 0 h in g.frees (p.counts.freed - 1) (omega arith)
 
@@ -92,12 +91,6 @@ module _ (n : ℕ) (e0 e1 : Edge) (p : Pool) (s : ℕ) (ok : PushOk n e0 e1 p) (
 
   pub links_ok : s < length p.links.next
   links_ok = inside_of hs ok.good.sizes.in_next
-
-  pub head_ok_1 : HeadOk n e0 p.links.heads
-  head_ok_1 = head_ok ok.good.small ok.edge0 ok.good.sizes.in_heads
-
-  pub head_ok_2 : {h : List ℕ} → h ≡ set p.links.heads (head_place n e0) s → HeadOk n e1 h
-  head_ok_2 eh = rw eh (head_ok ok.good.small ok.edge1 (simp length-set ok.good.sizes.in_heads))
 
   -- the old head of the first list may be linked
   old_written : EndOk (head_at n e0 p.links.heads) (put_edges s e0 e1 p.edges) (clear_ends s p.links.prev)
@@ -161,22 +154,6 @@ pub record SameSize (p q : Pool) : Type 0 where
   pub reverse : length p.order.reverse ≡ length q.order.reverse
   pub free : length p.free ≡ length q.free
 
-pub same_self : (p : Pool) → SameSize p p
-same_self p =
-    record { heads = refl; next = refl; prev = refl; edges = refl; dense = refl; reverse = refl; free = refl }
-
-pub same_trans : {p q r : Pool} → SameSize p q → SameSize q r → SameSize p r
-same_trans s t =
-    record {
-      heads = s.heads ∙ t.heads;
-      next = s.next ∙ t.next;
-      prev = s.prev ∙ t.prev;
-      edges = s.edges ∙ t.edges;
-      dense = s.dense ∙ t.dense;
-      reverse = s.reverse ∙ t.reverse;
-      free = s.free ∙ t.free;
-    }
-
 pub sized_same : {n : ℕ} {p q : Pool} → SameSize q p → Sized n p → Sized n q
 sized_same z g =
     record {
@@ -188,18 +165,6 @@ sized_same z g =
       in_reverse = rw z.reverse g.in_reverse;
       in_free = rw z.free g.in_free;
     }
-
--- ---- the same of what is lent
-pub record AsLong (b d : Buffers) : Type 0 where
-  pub heads : length b.heads ≡ length d.heads
-  pub ends : length b.ends ≡ length d.ends
-  pub links : length b.links ≡ length d.links
-  pub dense : length b.dense ≡ length d.dense
-  pub reverse : length b.reverse ≡ length d.reverse
-  pub free : length b.free ≡ length d.free
-
-pub as_long_self : (b : Buffers) → AsLong b b
-as_long_self b = record { heads = refl; ends = refl; links = refl; dense = refl; reverse = refl; free = refl }
 
 pub sizes_push : (n : ℕ) (e0 e1 : Edge) (p : Pool) → SameSize (pool_push n e0 e1 p) p
 unfolding pool_push link_front put_edges clear_ends dense_push
@@ -229,19 +194,24 @@ sizes_remove n s p =
 
 -- ---- the steps of the code, put together
 module _ (n : ℕ) (e0 e1 : Edge) (p : Pool) (ok : PushOk n e0 e1 p) where
-  pub push_steps : {t : Taken} {o : Order} {v : List Pair} {h1 h2 : List ℕ} {m0 m1 : ℕ} {x0 x1 x2 y0 y1 y2 : List Ends}
-      → t ≡ take_slot p.counts p.free
-      → o ≡ dense_push t.slot.0 p.counts.live p.order
-      → (m0 ≡ head_at n e0 p.links.heads) × (h1 ≡ set p.links.heads (head_place n e0) t.slot.0)
-      → (m1 ≡ head_at n e1 h1) × (h2 ≡ set h1 (head_place n e1) t.slot.0)
-      → (v ≡ put_edges t.slot.0 e0 e1 p.edges) × (x0 ≡ put_ends t.slot.0 m0 m1 p.links.next) × (y0 ≡ clear_ends t.slot.0 p.links.prev)
-      → (y1 ≡ set_end m0 e0 t.slot.0 v y0) × (x1 ≡ x0)
-      → (y2 ≡ set_end m1 e1 t.slot.0 v y1) × (x2 ≡ x1)
-      → ◌≡◌ {A = Pool} (record { edges = v; links = record { heads = h2; next = x2; prev = y2 }; order = o; free = p.free; counts = t.counts }) (pool_push n e0 e1 p)
+  pub slot_in : {s : ℕ} → s ≡ (take_slot p.counts p.free).slot → s < n * (n - 1)
+  slot_in es = rw es (slot_lt n p ok.good ok.room)
+
+  pub push_steps : {s : ℕ} {c : Counts} {o : Order} {v : List Pair} {h1 h2 : List ℕ} {m0 m1 : ℕ} {x0 x1 x2 y0 y1 y2 : List Ends}
+      → s ≡ (take_slot p.counts p.free).slot
+      → c ≡ (take_slot p.counts p.free).counts
+      → o ≡ dense_push s p.counts.live p.order
+      → (m0 ≡ head_at n e0 p.links.heads) × (h1 ≡ set p.links.heads (head_place n e0) s)
+      → (m1 ≡ head_at n e1 h1) × (h2 ≡ set h1 (head_place n e1) s)
+      → (v ≡ put_edges s e0 e1 p.edges) × (x0 ≡ put_ends s m0 m1 p.links.next) × (y0 ≡ clear_ends s p.links.prev)
+      → (y1 ≡ set_end m0 e0 s v y0) × (x1 ≡ x0)
+      → (y2 ≡ set_end m1 e1 s v y1) × (x2 ≡ x1)
+      → {f : List ℕ} → f ≡ p.free
+      → ◌≡◌ {A = Pool} (record { edges = v; links = record { heads = h2; next = x2; prev = y2 }; order = o; free = f; counts = c }) (pool_push n e0 e1 p)
   unfolding pool_push link_front
-  push_steps et eo t1 t2 w s1 s2 =
+  push_steps es ec eo t1 t2 w s1 s2 ef =
       let hs = slot_lt n p ok.good ok.room in
-      rw (s2.0, s2.1, s1.0, s1.1, w.1, w.2, w.0, t2.0, t2.1, t1.0, t1.1, eo, et, next_once n e0 e1 p _ ok hs (head_at n e0 p.links.heads) (head_at n e1 (set p.links.heads (head_place n e0) (take_slot p.counts p.free).slot.0)))
+      rw (s2.0, s2.1, s1.0, s1.1, w.1, w.2, w.0, t2.0, t2.1, t1.0, t1.1, eo, ec, ef, es, next_once n e0 e1 p _ ok hs (head_at n e0 p.links.heads) (head_at n e1 (set p.links.heads (head_place n e0) (take_slot p.counts p.free).slot)))
 
 -- what the code reads of the record that goes
 pub record ReadAt (p : Pool) (s : ℕ) (e0 e1 : Edge) (n0 p0 n1 p1 : ℕ) : Type 0 where
@@ -251,6 +221,12 @@ pub record ReadAt (p : Pool) (s : ℕ) (e0 e1 : Edge) (n0 p0 n1 p1 : ℕ) : Type
   pub prev0 : p0 ≡ (get_or p.links.prev s no_ends).x0
   pub next1 : n1 ≡ (get_or p.links.next s no_ends).x1
   pub prev1 : p1 ≡ (get_or p.links.prev s no_ends).x1
+
+pub read_at : (p : Pool) (s : ℕ) {e0 e1 : Edge} {n0 p0 n1 p1 : ℕ}
+    → (e0 ≡ end0 p.edges s) × (e1 ≡ end1 p.edges s)
+    → (n0 ≡ (get_or p.links.next s no_ends).x0) × (p0 ≡ (get_or p.links.prev s no_ends).x0) × (n1 ≡ (get_or p.links.next s no_ends).x1) × (p1 ≡ (get_or p.links.prev s no_ends).x1)
+    → ReadAt p s e0 e1 n0 p0 n1 p1
+read_at p s e l = record { edge0 = e.0; edge1 = e.1; next0 = l.0; prev0 = l.1; next1 = l.2; prev1 = l.3 }
 
 module _ (n s : ℕ) (p : Pool) {e0 e1 : Edge} {n0 p0 n1 p1 : ℕ} (z : ReadAt p s e0 e1 n0 p0 n1 p1) where
   pub remove_steps : {o : Order} {f : List ℕ} {c : Counts} {l1 l2 : Links}

@@ -4,7 +4,6 @@ pub mod Linked
 pub mod Chains
 pub mod ByAge
 pub mod Draining
-pub mod Filling
 pub mod HeadPlaces
 pub mod Words
 pub mod Lengths
@@ -15,6 +14,6 @@ pub mod Holding
 pub mod Pushing
 pub mod Removing
 pub mod Starting
-pub mod Picking
 pub mod Showing
 pub mod StoreFacts
+pub mod Buffers

@@ -47,7 +47,7 @@ new_sound n a b s pa pb ab =
 
 -- ---- the slot that is taken and the counts after it: m records live, l the free slots
 record Takes (n : ℕ) (p : Pool) (m : ℕ) (l : List ℕ) : Type 0 where
-  pub slot : (take_slot p.counts p.free).slot.0 ≡ slot_for l m
+  pub slot : (take_slot p.counts p.free).slot ≡ slot_for l m
   pub live : (take_slot p.counts p.free).counts.live ≡ suc m
   pub freed : (take_slot p.counts p.free).counts.freed ≡ length (rest l)
   pub grew : (take_slot p.counts p.free).counts.grown ≡ suc m + length (rest l)
@@ -215,7 +215,7 @@ module _ (n : ℕ) (p : Pool) (s : Store) (h : Stored n p s) (rep : lists n p s)
       let sr : Sound n (new_rec a b s) = new_sound n a b s pa pb ab in
       record { good = holds_good n p s h rep; edge0 = sr.first; edge1 = sr.second; differ = differ sr; room = omega (arith, h.live) }
 
-  sized : Sized n (push_at n (new_rec a b s).e0 (new_rec a b s).e1 (take_slot p.counts p.free).slot.0 (take_slot p.counts p.free).counts p)
+  sized : Sized n (push_at n (new_rec a b s).e0 (new_rec a b s).e1 (take_slot p.counts p.free).slot (take_slot p.counts p.free).counts p)
   unfolding pool_push
   sized = sized_same (sizes_push n (new_rec a b s).e0 (new_rec a b s).e1 p) h.sizes
 
@@ -278,8 +278,5 @@ module _ (n : ℕ) (p : Pool) (s : Store) (h : Holds n p s) (a b : Edge) where
     pub push_allowed : PushOk n e f p
     push_allowed = rw (ee, ef) (may_push m)
 
-    pub push_holds : {q : Pool} {ok : Bool} → q ≡ pool_push n e f p → ok ≡ true → Holds n q (cond ok (plain.push a b s) s)
-    push_holds eq t = rw (t, eq, ee, ef) (holds_push m)
-
-  pub no_push_holds : {ok : Bool} → ok ≡ false → Holds n p (cond ok (plain.push a b s) s)
-  no_push_holds t = rw t h
+    pub push_holds : {q : Pool} → q ≡ pool_push n e f p → Holds n q (plain.push a b s)
+    push_holds eq = rw (eq, ee, ef) (holds_push m)

@@ -26,7 +26,7 @@ use Rattle.intersection_set.proofs.Chains.{Links, Rep, cond_fun, names_first, na
 use Rattle.intersection_set.proofs.HeadPlaces.{placed}
 use Rattle.intersection_set.proofs.Alike.{Same, same_then, unlink_same}
 use Rattle.intersection_set.proofs.Views.{view, At, unlink_is}
-use Rattle.intersection_set.proofs.Lengths.{inside_of, cap_small, end_ok, head_ok, len_ends, len_head, sizes_remove, sized_same, all_none, all_suc}
+use Rattle.intersection_set.proofs.Lengths.{inside_of, cap_small, end_ok, head_ok, len_ends, len_head, sizes_remove, sized_same, live_remove, drained_next, all_none, all_suc, all_some}
 use Rattle.intersection_set.proofs.Holding.{each_remove, differ, stack_set, Near, reach, near_prev, near_next, rep_same, along_first, along_second, lists, lists_of, holds_of, not_none}
 use Rattle.intersection_set.proofs.Pushing.{Long, long_sized}
 
@@ -274,7 +274,50 @@ module _ (n : ℕ) (e : Edge) (pe : Proper n e) where
     pub holds_remove_all : Holds n (pool_remove_all n e p.counts.live p) (plain.remove_all e s)
     holds_remove_all = subst⁻¹ (λ (f : ℕ). Holds n (pool_remove_all n e f p) (plain.remove_all e s)) h.stored.live (drain (length s.dense) p s h (omega arith)).1
 
-    -- the same of the pool that the code leaves
-    module _ {q : Pool} (eq : q ≡ pool_remove_all n e p.counts.live p) where
-      pub removed_holds : Holds n q (plain.remove_all e s)
-      removed_holds = rw eq holds_remove_all
+-- ---- the loop of the code: p is what is left of the pool p₀ that it began with
+pub record Left (n : ℕ) (e : Edge) (p₀ p : Pool) : Type 0 where
+  pub head : HeadOk n e p.links.heads
+  pub drained : Drained n e p
+  pub all : pool_remove_all n e p.counts.live p ≡ pool_remove_all n e p₀.counts.live p₀
+
+pub left_start : {n : ℕ} {e : Edge} (p : Pool) (s : Store) → Proper n e → Holds n p s → Left n e p p
+left_start {n} {e} p s pe h = record { head = head_there n e pe p s h; drained = drained n e pe p s h; all = refl }
+
+module _ {n : ℕ} {e : Edge} {p₀ p : Pool} (l : Left n e p₀ p) {m : ℕ} (em : m ≡ n) where
+  pub left_head : HeadOk m e p.links.heads
+  left_head = rw em l.head
+
+  pub left_none : (s : Store) → Proper n e → Holds n p₀ s → none ≡ head_at m e p.links.heads → Holds n p (plain.remove_all e s)
+  left_none s pe h z =
+      rw (sym (all_none n e p.counts.live p (sym (rw em at z))) ∙ l.all) (holds_remove_all n e pe p₀ s h)
+
+  -- while there is a record x at the head, it can be removed
+  module _ {x : ℕ} (z : x ≡ head_at m e p.links.heads) (some : x < none) where
+    there : x ≡ head_at n e p.links.heads
+    there = rw em at z
+
+    some_head : head_at n e p.links.heads ≢ none
+    some_head q = omega (arith, there, q)
+
+    next : RemoveOk n (head_at n e p.links.heads) p × Drained n e (pool_remove n (head_at n e p.links.heads) p)
+    next = drained_next l.drained some_head
+
+    pub left_some : RemoveOk m x p
+    left_some = rw (em, there) next.0
+
+    module _ {q : Pool} (eq : q ≡ pool_remove m x p) where
+      gone : q ≡ pool_remove n (head_at n e p.links.heads) p
+      gone = rw (eq, em, there)
+
+      pub left_fewer : q.counts.live < p.counts.live
+      left_fewer = omega (arith, ap (λ (r : Pool). r.counts.live) gone ∙ live_remove n (head_at n e p.links.heads) p, next.0.drops.some)
+
+      pub left_next : Left n e p₀ q
+      left_next =
+          let h : ℕ = head_at n e p.links.heads in
+          let z = ap (λ (r : Pool). length r.links.heads) gone ∙ (sizes_remove n h p).heads in
+          record {
+            head = record { small = l.head.small; edge = l.head.edge; place = rw z l.head.place };
+            drained = subst⁻¹ (Drained n e) gone next.1;
+            all = (λ i. pool_remove_all n e (gone i).counts.live (gone i)) ∙ ap (λ (j : ℕ). pool_remove_all n e j (pool_remove n h p)) (live_remove n h p) ∙ sym (all_some n e p.counts.live p next.0.drops.some some_head) ∙ l.all;
+          }

@@ -2,62 +2,23 @@
 use mathlib.Core.Path.{◌≡◌, refl, sym, ap, subst, ◌∙◌}
 use mathlib.Core.Logic.{◌≢◌}
 use mathlib.Core.Bool.{Bool, true, false, not}
-use mathlib.Core.List.{List, [], ◌∷◌, map}
-use Prim.Native.Nat.{ℕ, zero, suc, ◌+◌, ◌-◌, ◌*◌, ◌/◌, ◌%◌, ◌<◌, ◌≤◌}
+use mathlib.Core.List.{List, map}
+use Prim.Native.Nat.{ℕ, ◌+◌, ◌-◌, ◌*◌, ◌/◌, ◌%◌, ◌<◌}
 use native.Mathlib.Omega.{arith}
 use lib.ListN.{length, get_or, set, length-map, get_or-map}
 use lib.Seq.{map-set_same}
+use Rattle.std.proofs.lemmas.List.{map-set}
 use borrow.Author.Tests.{ne_eqb}
 use Rattle.index_edge.specs.Edge.{Edge, eq_edge}
 use Rattle.intersection_set.specs.Lists.{none}
 use Rattle.intersection_set.specs.Words.{packed, part0, part1, part2, part3, unit_of, with_link}
 use Rattle.intersection_set.specs.Pool.{Ends, ends, no_ends, Pair, pair, no_pair, pair_of, edges_of, links_in, nexts_in, prevs_in, end0, put_end, set_end, put_edges, put_ends, clear_ends}
 
-pub part0_small : (w : ℕ) → part0 w < 65536
-part0_small w = omega arith
-
-pub part1_small : (w : ℕ) → part1 w < 65536
-part1_small w = omega arith
-
-pub part2_small : (w : ℕ) → part2 w < 65536
-part2_small w = omega arith
-
-pub part3_small : (w : ℕ) → w < 18446744073709551616 → part3 w < 65536
-part3_small w h = omega arith
-
-module _ (a b c d : ℕ) (ha : a < 65536) (hb : b < 65536) (hc : c < 65536) where
-  pub part0_of : part0 (packed a b c d) ≡ a
-  part0_of = omega arith
-
-  pub part1_of : part1 (packed a b c d) ≡ b
-  part1_of = omega arith
-
-  pub part2_of : part2 (packed a b c d) ≡ c
-  part2_of = omega arith
-
-  pub part3_of : part3 (packed a b c d) ≡ d
-  part3_of = omega arith
-
 pub packed_parts : (w : ℕ) → packed (part0 w) (part1 w) (part2 w) (part3 w) ≡ w
 packed_parts w = omega arith
 
-pub packed_small : (a b c d : ℕ) → a < 65536 → b < 65536 → c < 65536 → d < 65536 → packed a b c d < 18446744073709551616
-packed_small a b c d ha hb hc hd = omega arith
-
 -- ---- one number of a word anew, at the unit u of its place
-pub record Anew (u w v : ℕ) : Type 0 where
-  pub some : 0 < u
-  pub part : w / u % 65536 * u ≤ w
-  pub fits : v * u < 18446744073709551616
-  pub whole : w - w / u % 65536 * u + v * u < 18446744073709551616
-
 module _ (w v : ℕ) (hw : w < 18446744073709551616) (hv : v < 65536) where
-  pub may_anew : (back first : Bool) → Anew (unit_of back first) w v
-  may_anew true true = record { some = omega arith; part = omega arith; fits = omega arith; whole = omega arith }
-  may_anew true false = record { some = omega arith; part = omega arith; fits = omega arith; whole = omega arith }
-  may_anew false true = record { some = omega arith; part = omega arith; fits = omega arith; whole = omega arith }
-  may_anew false false = record { some = omega arith; part = omega arith; fits = omega arith; whole = omega arith }
-
   pub is_anew : (back first : Bool) → w - w / unit_of back first % 65536 * unit_of back first + v * unit_of back first ≡ with_link back first w v
   unfolding with_link
   is_anew true true = omega arith
@@ -82,44 +43,47 @@ module _ (l : List ℕ) (i : ℕ) where
   links_read true = get_or-map (links_in true) l i 0
   links_read false = get_or-map (links_in false) l i 0
 
-pub as_many : {A : Type 0} (f : ℕ → A) (l k : List ℕ) → length (map f l) ≡ length (map f k) → length l ≡ length k
-as_many f l k q = sym (length-map l f) ∙ q ∙ length-map k f
-
 -- ---- a word stored
 stored : {A : Type 0} (f : ℕ → A) (l : List ℕ) (i y : ℕ) (v : A) → f y ≡ v → map f (set l i y) ≡ set (map f l) i v
-stored f [] i y v e = refl
-stored {A} f (x ∷ xs) zero y v e = ap (λ (z : A). z ∷ map f xs) e
-stored {A} f (x ∷ xs) (suc i) y v e = ap (λ (zs : List A). f x ∷ zs) (stored f xs i y v e)
+stored f l i y v e = map-set f l i y ∙ ap (set (map f l) i) e
+
+as_ends : {a b c d : ℕ} → a ≡ c → b ≡ d → ends a b ≡ ends c d
+as_ends p q = λ j. ends (p j) (q j)
 
 -- four numbers at once
 module _ (l : List ℕ) (i a b c d : ℕ) (ha : a < 65536) (hb : b < 65536) (hc : c < 65536) where
   pub edges_stored : edges_of (set l i (packed a b c d)) ≡ put_edges i (record { lo = a; hi = b }) (record { lo = c; hi = d }) (edges_of l)
   unfolding pair_of put_edges
-  edges_stored = stored pair_of l i (packed a b c d) _ (λ j. pair (record { lo = part0_of a b c d ha hb hc j; hi = part1_of a b c d ha hb hc j }) (record { lo = part2_of a b c d ha hb hc j; hi = part3_of a b c d ha hb hc j }))
+  edges_stored =
+      let p0 : part0 (packed a b c d) ≡ a = omega arith in
+      let p1 : part1 (packed a b c d) ≡ b = omega arith in
+      let p2 : part2 (packed a b c d) ≡ c = omega arith in
+      let p3 : part3 (packed a b c d) ≡ d = omega arith in
+      stored pair_of l i (packed a b c d) _ (λ j. pair (record { lo = p0 j; hi = p1 j }) (record { lo = p2 j; hi = p3 j }))
 
   pub nexts_stored : map nexts_in (set l i (packed a b c d)) ≡ put_ends i a c (map nexts_in l)
   unfolding links_in put_ends
-  nexts_stored = stored nexts_in l i (packed a b c d) _ (λ j. ends (part0_of a b c d ha hb hc j) (part2_of a b c d ha hb hc j))
+  nexts_stored = stored nexts_in l i (packed a b c d) (ends a c) (as_ends (omega arith) (omega arith))
 
   pub prevs_stored : map prevs_in (set l i (packed a b c d)) ≡ put_ends i b d (map prevs_in l)
   unfolding links_in put_ends
-  prevs_stored = stored prevs_in l i (packed a b c d) _ (λ j. ends (part1_of a b c d ha hb hc j) (part3_of a b c d ha hb hc j))
+  prevs_stored = stored prevs_in l i (packed a b c d) (ends b d) (as_ends (omega arith) (omega arith))
 
 -- one of them
 module _ (w v : ℕ) (hv : v < 65536) where
   this_way : (back first : Bool) → links_in back (with_link back first w v) ≡ put_end first v (links_in back w)
   unfolding links_in with_link
-  this_way true true = λ j. ends (part1_of (part0 w) v (part2 w) (part3 w) (part0_small w) hv (part2_small w) j) (part3_of (part0 w) v (part2 w) (part3 w) (part0_small w) hv (part2_small w) j)
-  this_way true false = λ j. ends (part1_of (part0 w) (part1 w) (part2 w) v (part0_small w) (part1_small w) (part2_small w) j) (part3_of (part0 w) (part1 w) (part2 w) v (part0_small w) (part1_small w) (part2_small w) j)
-  this_way false true = λ j. ends (part0_of v (part1 w) (part2 w) (part3 w) hv (part1_small w) (part2_small w) j) (part2_of v (part1 w) (part2 w) (part3 w) hv (part1_small w) (part2_small w) j)
-  this_way false false = λ j. ends (part0_of (part0 w) (part1 w) v (part3 w) (part0_small w) (part1_small w) hv j) (part2_of (part0 w) (part1 w) v (part3 w) (part0_small w) (part1_small w) hv j)
+  this_way true true = as_ends (omega arith) (omega arith)
+  this_way true false = as_ends (omega arith) (omega arith)
+  this_way false true = as_ends (omega arith) (omega arith)
+  this_way false false = as_ends (omega arith) (omega arith)
 
   other_way : (back first : Bool) → links_in (not back) (with_link back first w v) ≡ links_in (not back) w
   unfolding links_in with_link
-  other_way true true = λ j. ends (part0_of (part0 w) v (part2 w) (part3 w) (part0_small w) hv (part2_small w) j) (part2_of (part0 w) v (part2 w) (part3 w) (part0_small w) hv (part2_small w) j)
-  other_way true false = λ j. ends (part0_of (part0 w) (part1 w) (part2 w) v (part0_small w) (part1_small w) (part2_small w) j) (part2_of (part0 w) (part1 w) (part2 w) v (part0_small w) (part1_small w) (part2_small w) j)
-  other_way false true = λ j. ends (part1_of v (part1 w) (part2 w) (part3 w) hv (part1_small w) (part2_small w) j) (part3_of v (part1 w) (part2 w) (part3 w) hv (part1_small w) (part2_small w) j)
-  other_way false false = λ j. ends (part1_of (part0 w) (part1 w) v (part3 w) (part0_small w) (part1_small w) hv j) (part3_of (part0 w) (part1 w) v (part3 w) (part0_small w) (part1_small w) hv j)
+  other_way true true = as_ends (omega arith) (omega arith)
+  other_way true false = as_ends (omega arith) (omega arith)
+  other_way false true = as_ends (omega arith) (omega arith)
+  other_way false false = as_ends (omega arith) (omega arith)
 
 -- ---- the same as the steps of the pool say it
 pub link_set : (w : List Pair) (l : List ℕ) (s : ℕ) (e : Edge) (v : ℕ) (back : Bool) {first : Bool} {r : ℕ} → s ≢ none → v < 65536 → first ≡ eq_edge e (end0 w s) → r ≡ with_link back first (get_or l s 0) v

@@ -5,3 +5,5 @@ pub mod Words
 pub mod Pool
 pub mod Within
 pub mod Holds
+pub mod Stored
+pub mod Set

@@ -4,7 +4,6 @@ use Rattle.index_edge.specs.Edge.{Edge, eq_edge, lt_edge}
 use Rattle.intersection_set.specs.Lists.{none, head_place}
 use Rattle.intersection_set.specs.Words.{part0, part1, part2, part3}
 use Rattle.intersection_set.specs.declared.utils.Counts.{Counts}
-use Rattle.intersection_set.specs.declared.utils.Taken.{Taken}
 
 -- a number for each of a record's two edges
 pub record Ends : Type 0 where
@@ -97,12 +96,17 @@ pool_of b c =
 abbrev pub counts_of : ℕ → ℕ → ℕ → Counts
 counts_of live grown freed = record { live = live; grown = grown; freed = freed }
 
+-- a slot that was taken, and the counts after it
+pub record Taken : Type 0 where
+  pub slot : ℕ
+  pub counts : Counts
+
 -- the slot freed last, else the next new one
 unfoldable pub take_slot : Counts → List ℕ → Taken
 take_slot c free =
     cond (eqb c.freed 0)
-    (record { slot = record { 0 = c.grown }; counts = counts_of (c.live + 1) (c.grown + 1) 0 })
-    (record { slot = record { 0 = get_or free (c.freed - 1) 0 }; counts = counts_of (c.live + 1) c.grown (c.freed - 1) })
+    (record { slot = c.grown; counts = counts_of (c.live + 1) (c.grown + 1) 0 })
+    (record { slot = get_or free (c.freed - 1) 0; counts = counts_of (c.live + 1) c.grown (c.freed - 1) })
 
 -- a slot is appended to the dense order
 unfoldable pub dense_push : ℕ → ℕ → Order → Order
@@ -174,7 +178,7 @@ push_at n e0 e1 s c p =
     }
 
 unfoldable pub pool_push : ℕ → Edge → Edge → Pool → Pool
-pool_push n e0 e1 p = push_at n e0 e1 (take_slot p.counts p.free).slot.0 (take_slot p.counts p.free).counts p
+pool_push n e0 e1 p = push_at n e0 e1 (take_slot p.counts p.free).slot (take_slot p.counts p.free).counts p
 
 -- the smaller edge, and the other
 abbrev pub lesser : Edge → Edge → Edge

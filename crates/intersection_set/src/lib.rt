@@ -2,4 +2,5 @@
 #![tactic(auto)]
 
 pub mod intersection_set;
+pub mod sparse_index;
 pub mod utils;

@@ -1,23 +1,11 @@
 // Slots that are taken and freed, and the dense order of those in use (utils.rs, `SparseVec` and `DenseCollection`).
-ghost use Rattle.std.specs.Prelude.{◌≡◌, ◌+◌, ◌-◌, ◌<◌, eqb, length, set};
-ghost use Rattle.intersection_set.specs.Lists.{none};
-ghost use Rattle.intersection_set.specs.Pool.{order, counts_of, take_slot, dense_push, dense_remove};
+ghost use Rattle.std.specs.Prelude.{◌≡◌, ◌+◌, ◌-◌, ◌<◌, length, set};
+ghost use Rattle.intersection_set.specs.Pool.{counts_of, take_slot, dense_push, dense_remove};
 ghost use Rattle.intersection_set.specs.Within.{TakeOk, AppendOk, DropOk};
+ghost use Rattle.intersection_set.specs.Set.{SameBuffers, SameLists, order_in};
 
-// The number of a slot. It is taken apart only where a slice is indexed.
-#[derive(Clone, Copy)]
-pub struct SparseIndex(pub u16);
-
-// No slot.
-pub const NONE: u16 = 65535;
-
-impl SparseIndex {
-    pub fn is_none(self) -> bool
-        ensures { result ≡ eqb self.0 none }
-    {
-        self.0 == NONE
-    }
-}
+use crate::intersection_set::IndexIntersectionSet;
+use crate::sparse_index::SparseIndex;
 
 // How many slots are in use, how many were grown so far, and how many of these are free again.
 #[derive(Clone, Copy)]
@@ -27,98 +15,61 @@ pub struct Counts {
     pub freed: usize,
 }
 
-// A slot that was taken, and the counts after it.
-#[derive(Clone, Copy)]
-pub struct Taken {
-    pub slot: SparseIndex,
-    pub counts: Counts,
-}
-
-// The slot freed last, else the next new one.
-fn take_slot(c: Counts, free: &[u16]) -> Taken
-    requires { TakeOk c free.now }
-    ensures { result ≡ take_slot c free.now }
-{
-    let live = c.live;
-    let grown = c.grown;
-    let freed = c.freed;
-    if freed == 0 {
-        Taken {
-            slot: SparseIndex(grown as u16),
-            counts: Counts {
-                live: live + 1,
-                grown: grown + 1,
-                freed: 0,
-            },
-        }
-    } else {
-        let last = free[freed - 1];
-        Taken {
-            slot: SparseIndex(last),
-            counts: Counts {
-                live: live + 1,
-                grown: grown,
-                freed: freed - 1,
-            },
+impl<'a> IndexIntersectionSet<'a> {
+    // The slot freed last, else the next new one.
+    #[tactic(auto, unfolding(crate::specs::Pool::take_slot))]
+    fn take(&mut self) -> SparseIndex
+        requires { TakeOk self.old.counts self.old.free.now }
+        ensures same { SameBuffers self.old self.new × SameLists self.old self.new }
+        ensures slots { (order_in self.new ≡ order_in self.old) × (self.new.free.now ≡ self.old.free.now) }
+        ensures slot { result.0 ≡ (take_slot self.old.counts self.old.free.now).slot }
+        ensures counts { self.new.counts ≡ (take_slot self.old.counts self.old.free.now).counts }
+    {
+        self.counts.live += 1;
+        if self.counts.freed == 0 {
+            let grown = self.counts.grown;
+            self.counts.grown += 1;
+            SparseIndex(grown as u16)
+        } else {
+            self.counts.freed -= 1;
+            let last = self.free[self.counts.freed];
+            SparseIndex(last)
         }
     }
-}
 
-// Appends a slot to the dense order.
-fn dense_push(s: SparseIndex, live: usize, dense: &mut [u16], reverse: &mut [u16])
-    requires { AppendOk s.0 live (order dense.old reverse.old) }
-    ensures { order dense.new reverse.new ≡ dense_push s.0 live (order dense.old reverse.old) }
-{
-    let i = s.0 as usize;
-    dense[live] = s.0;
-    reverse[i] = live as u16;
-}
+    // Takes a slot, and appends it to the dense order.
+    #[tactic(auto, unfolding(crate::specs::Pool::dense_push))]
+    pub fn alloc(&mut self) -> SparseIndex
+        requires { TakeOk self.old.counts self.old.free.now
+            × AppendOk (take_slot self.old.counts self.old.free.now).slot self.old.counts.live (order_in self.old) }
+        ensures same { SameBuffers self.old self.new × SameLists self.old self.new }
+        ensures slot { result.0 ≡ (take_slot self.old.counts self.old.free.now).slot }
+        ensures counts { self.new.counts ≡ (take_slot self.old.counts self.old.free.now).counts }
+        ensures order { order_in self.new ≡ dense_push result.0 self.old.counts.live (order_in self.old) }
+        ensures free { self.new.free.now ≡ self.old.free.now }
+    {
+        let live = self.counts.live;
+        let s = self.take();
+        self.dense[live] = s.0;
+        self.reverse[s.0 as usize] = live as u16;
+        s
+    }
 
-// Takes a slot, and appends it to the dense order.
-pub fn alloc(c: Counts, dense: &mut [u16], reverse: &mut [u16], free: &[u16]) -> Taken
-    requires { TakeOk c free.now × AppendOk (take_slot c free.now).slot.0 c.live (order dense.old reverse.old) }
-    ensures { (result ≡ take_slot c free.now) × (order dense.new reverse.new ≡ dense_push result.slot.0 c.live (order dense.old reverse.old)) }
-{
-    let t = take_slot(c, free);
-    let s = t.slot;
-    let live = c.live;
-    dense_push(s, live, dense, reverse);
-    t
-}
-
-// Swaps the dense entry of s with the last one, and drops it: the last entry's place is now that of s.
-fn dense_remove(s: SparseIndex, live: usize, dense: &mut [u16], reverse: &mut [u16])
-    requires { DropOk s.0 live (order dense.old reverse.old) }
-    ensures { order dense.new reverse.new ≡ dense_remove s.0 live (order dense.old reverse.old) }
-{
-    let i = s.0 as usize;
-    let d = reverse[i];
-    let at = d as usize;
-    let last = dense[live - 1];
-    let j = last as usize;
-    dense[at] = last;
-    reverse[j] = d;
-}
-
-// Takes s out of the dense order, and frees it.
-pub fn release(
-    s: SparseIndex,
-    c: Counts,
-    dense: &mut [u16],
-    reverse: &mut [u16],
-    free: &mut [u16],
-) -> Counts
-    requires { DropOk s.0 c.live (order dense.old reverse.old) × (c.freed < length free.old) }
-    ensures { (order dense.new reverse.new ≡ dense_remove s.0 c.live (order dense.old reverse.old)) × (free.new ≡ set free.old c.freed s.0) × (result ≡ counts_of (c.live - 1) c.grown (c.freed + 1)) }
-{
-    let live = c.live;
-    let grown = c.grown;
-    let freed = c.freed;
-    dense_remove(s, live, dense, reverse);
-    free[freed] = s.0;
-    Counts {
-        live: live - 1,
-        grown: grown,
-        freed: freed + 1,
+    // Takes s out of the dense order, and frees it. Its dense entry is swapped with the last one, whose place is then that of s.
+    #[tactic(auto, unfolding(crate::specs::Pool::dense_remove))]
+    pub fn release(&mut self, s: SparseIndex)
+        requires { DropOk s.0 self.old.counts.live (order_in self.old) × (self.old.counts.freed < length self.old.free.now) }
+        ensures same { SameBuffers self.old self.new × SameLists self.old self.new }
+        ensures order { order_in self.new ≡ dense_remove s.0 self.old.counts.live (order_in self.old) }
+        ensures free { self.new.free.now ≡ set self.old.free.now self.old.counts.freed s.0 }
+        ensures counts { self.new.counts ≡ counts_of (self.old.counts.live - 1) self.old.counts.grown (self.old.counts.freed + 1) }
+    {
+        self.counts.live -= 1;
+        let place = self.reverse[s.0 as usize];
+        let last = self.dense[self.counts.live];
+        self.dense[place as usize] = last;
+        self.reverse[last as usize] = place;
+        self.free[self.counts.freed] = s.0;
+        self.counts.freed += 1;
     }
 }
