@@ -18,7 +18,13 @@ use Rattle.polygon.proofs.Index.{list_at, first_ring}
 use Rattle.polygon.proofs.EachOnce.{ring_each}
 use Rattle.machine.specs.Board.{is_straight_line}
 use Rattle.machine.specs.Answer.{in_range, none_alike, refusal}
-use Rattle.checks.specs.Checks.{any_below, early, first_four, late}
+use Rattle.geometry.specs.Spots.{spots}
+use Rattle.geometry.specs.declared.lent.Points.{Points}
+use Rattle.refusal.specs.Number.{number_of}
+use Rattle.refusal.specs.declared.Refusal.{Refusal}
+use Rattle.refusal.specs.declared.Refusal.TheVariants.{ManyPoints, ShortBuffer, OutOfRange, NoRing, EqualPoints, FewPoints, OneLine, PicksUsedUp, JobLength, TotalLength, ManyJobPoints, AreaOutside, SharedBytes}
+use Rattle.checks.specs.Checks.{any_below, early, first_four, late, Of}
+use Rattle.std.proofs.Common.{Bor}
 
 -- a part that starts at 0
 pub from_start : (n : ℕ) → n - 0 ≡ n
@@ -112,23 +118,45 @@ module _ (n : ℕ) (pt : ℕ → Point) (s : Bool) (r : List ℕ) where
 pub same_refusal : (n : ℕ) (pt : ℕ → Point) (s t : Bool) (r : List ℕ) → (n ≤ 256 → s ≡ t) → refusal n pt s r ≡ refusal n pt t r
 same_refusal n pt s t r h = both (true_or_false (ltb 256 n)) (λ e. rw e refl) (λ e. ap (λ (b : Bool). refusal n pt b r) (h (ltb-false 256 n e)))
 
-module _ (n : ℕ) (x y : List ℤ) (s : Bool) (ok : early n (points x y) s ≡ 0) where
+pub lent_of : {n : ℕ} {x y : List ℤ} → n ≤ 256 → n ≤ length x → n ≤ length y → in_range n (points x y) ≡ true → Lent n x y
+lent_of {n} {x} {y} few lx ly z = record {
+  few = few;
+  lx = lx;
+  ly = ly;
+  nx = λ i l. and_left (near (coord x i)) (near (coord y i)) (all_true n (λ i. near_point (points x y i)) z i l);
+  ny = λ i l. and_right (near (coord x i)) (near (coord y i)) (all_true n (λ i. near_point (points x y i)) z i l);
+}
+
+module _ (n : ℕ) (pt : ℕ → Point) (s : Bool) (ok : early n pt s ≡ 0) where
   pub early_small : n ≤ 256
-  early_small = ltb-false 256 n (early_few (ltb 256 n) s (not (in_range n (points x y))) ok).0
+  early_small = ltb-false 256 n (early_few (ltb 256 n) s (not (in_range n pt)) ok).0
 
   pub early_long : s ≡ false
-  early_long = (early_few (ltb 256 n) s (not (in_range n (points x y))) ok).1
+  early_long = (early_few (ltb 256 n) s (not (in_range n pt)) ok).1
 
-  pub early_lent : n ≤ length x → n ≤ length y → Lent n x y
-  early_lent lx ly =
-      let z : in_range n (points x y) ≡ true = not_false _ (early_few (ltb 256 n) s (not (in_range n (points x y))) ok).2 in
-      record {
-        few = early_small;
-        lx = lx;
-        ly = ly;
-        nx = λ i l. and_left (near (coord x i)) (near (coord y i)) (all_true n (λ i. near_point (points x y i)) z i l);
-        ny = λ i l. and_right (near (coord x i)) (near (coord y i)) (all_true n (λ i. near_point (points x y i)) z i l);
-      }
+-- ---- what is told of the points of a call is told of those that are lent
+module _ {n : ℕ} {x y : Bor (List ℤ)} (p : Points) (o : Of n x y p) where
+  pub same_late : late p.n (spots p) ≡ late n (points x.now y.now)
+  same_late = λ t. late (o.0 t) (points (o.1 t).now (o.2 t).now)
+
+  pub same_line : (r : ℕ → List ℕ) → all_below p.n (is_straight_line p.n (spots p) (r p.n)) ≡ all_below n (is_straight_line n (points x.now y.now) (r n))
+  same_line r = λ t. all_below (o.0 t) (is_straight_line (o.0 t) (points (o.1 t).now (o.2 t).now) (r (o.0 t)))
+
+-- no refusal has the number 0
+pub some_number : (r : Refusal) → 0 < number_of r
+some_number ManyPoints = omega arith
+some_number ShortBuffer = omega arith
+some_number OutOfRange = omega arith
+some_number NoRing = omega arith
+some_number EqualPoints = omega arith
+some_number FewPoints = omega arith
+some_number OneLine = omega arith
+some_number (PicksUsedUp moves left) = omega arith
+some_number JobLength = omega arith
+some_number TotalLength = omega arith
+some_number ManyJobPoints = omega arith
+some_number AreaOutside = omega arith
+some_number SharedBytes = omega arith
 
 -- none of the lengths is below the size
 pub long : (size : ℕ) (ls : List ℕ) → any_below size ls ≡ false → (i : ℕ) → i < length ls → size ≤ get_or ls i 0

@@ -1,6 +1,8 @@
 -- The checks of a call, as the code takes them: check 2 over the lent lengths, and the checks before and after that of the ring.
-use Rattle.std.specs.Prelude.{Bool, false, not, ◌||◌, cond, List, [], ◌∷◌, ℕ, ◌-◌, ◌*◌, ltb}
+use Rattle.std.specs.Prelude.{◌≡◌, ℤ, Bool, false, not, ◌||◌, cond, List, [], ◌∷◌, ℕ, ◌-◌, ◌*◌, ltb}
+use Rattle.std.proofs.Common.{Bor}
 use Rattle.geometry.specs.Plane.{Point}
+use Rattle.geometry.specs.declared.lent.Points.{Points}
 use Rattle.polygon.specs.Ring.{each_once}
 use Rattle.machine.specs.Answer.{in_range, none_alike}
 
@@ -11,7 +13,7 @@ any_below size (l ∷ ls) = ltb l size || any_below size ls
 
 -- Check 2: x, y, ring or index has fewer than n entries, or one of the record buffers fewer than n×(n-1).
 abbrev pub short : ℕ → List ℕ → List ℕ → Bool
-short n ring-sized record-sized = any_below n ring-sized || any_below (n * (n - 1)) record-sized
+short n of_points of_records = any_below n of_points || any_below (n * (n - 1)) of_records
 
 -- checks 1, 2 and 3: the first that fails, or 0
 abbrev pub early : ℕ → (ℕ → Point) → Bool → ℕ
@@ -24,3 +26,7 @@ first_four n pt s r = cond (ltb 256 n) 1 (cond s 2 (cond (not (in_range n pt)) 3
 -- checks 5 and 6
 abbrev pub late : ℕ → (ℕ → Point) → ℕ
 late n pt = cond (not (none_alike n pt)) 5 (cond (ltb n 3) 6 0)
+
+-- the points of a call that passed: the first n of what is lent
+abbrev pub Of : ℕ → Bor (List ℤ) → Bor (List ℤ) → Points → Type 0
+Of n x y p = (p.n ≡ n) × (p.x ≡ x) × (p.y ≡ y)

@@ -1,5 +1,5 @@
 // The checks of a call, in number order, and what they ask of points and ring. None of them writes.
 #![tactic(auto)]
 
-pub mod refusal;
+pub mod accept;
 pub mod start;

@@ -1,137 +1,139 @@
-// The checks 3, 5 and 7 of a start, and the least point of a ring.
+// What the checks ask of points and ring, and the way round a ring.
 ghost use Rattle.std.specs.Prelude.{◌≡◌, ◌-◌, ◌≤◌, ◌<◌, length};
-ghost use Rattle.algebra.specs.Ranges.{all_below};
-ghost use Rattle.geometry.specs.Plane.{near_point};
-ghost use Rattle.geometry.specs.Lent.{points, Lent};
+ghost use Rattle.algebra.specs.Ranges.{all_below, up_from};
+ghost use Rattle.geometry.specs.Lent.{points};
+ghost use Rattle.geometry.specs.Spots.{spots};
 ghost use Rattle.polygon.specs.Place.{position};
+ghost use Rattle.polygon.specs.Ring.{IsRing};
 ghost use Rattle.machine.specs.Board.{is_straight_line};
 ghost use Rattle.machine.specs.Answer.{in_range, new_point, none_alike, least_to, clockwise};
-ghost use Rattle.moves.specs.Walk.{RingOver};
+ghost use Rattle.moves.specs.Walk.{ring_of, point_of, On};
 ghost use Rattle.checks.specs.Least.{lesser_at};
 
-use geometry::point::{alike_at, is_near, less_at};
-use moves::vertex::{is_colinear, number_at, orientation};
+use geometry::lent::Points;
+use geometry::orientation::turn_of;
+use geometry::point::Point;
+use index_edge::PointId;
+use moves::vertex::Vertex;
 use polygon::position::{Position, PositionId};
-
-// Point i is within the limits.
-fn near_at(x: &[i32], y: &[i32], i: usize) -> bool
-    requires { (i < length x.now) × (i < length y.now) }
-    ensures { result ≡ near_point (points x.now y.now i) }
-{
-    is_near(x[i]) & is_near(y[i])
-}
 
 // Check 3: every coordinate is within the limits.
 pub fn in_range(n: usize, x: &[i32], y: &[i32]) -> bool
     requires { (n ≤ length x.now) × (n ≤ length y.now) }
     ensures { result ≡ in_range n (points x.now y.now) }
 {
-    let mut i = 0;
-    while i < n {
-        if !near_at(x, y, i) {
+    for i in 0..n {
+        let point = Point { x: x[i], y: y[i] };
+        if !point.is_in_range() {
             return false;
         }
-        i += 1;
     }
     true
 }
 
-// Point i is none of those before it.
-fn is_new(n: usize, x: &[i32], y: &[i32], i: usize) -> bool
-    requires { Lent n x.now y.now × (i < n) }
-    ensures { result ≡ new_point (points x.now y.now) i }
+// A point is none of those before it.
+fn is_new(points: Points<'_>, id: PointId) -> bool
+    requires { id.0 < points.n }
+    ensures { result ≡ new_point (spots points.entry) id.0 }
 {
-    let mut j = 0;
-    while j < i {
-        if alike_at(x, y, j, i) {
+    let point = points.at(id);
+    for j in 0..id.0 {
+        if points.at(PointId(j)) == point {
             return false;
         }
-        j += 1;
     }
     true
 }
 
 // Check 5: no point equals an earlier one.
-pub fn none_alike(n: usize, x: &[i32], y: &[i32]) -> bool
-    requires { Lent n x.now y.now }
-    ensures { result ≡ none_alike n (points x.now y.now) }
+pub fn none_alike(points: Points<'_>) -> bool
+    ensures { result ≡ none_alike points.entry.n (spots points.entry) }
 {
-    let mut i = 0;
-    while i < n {
-        if !is_new(n, x, y, i) {
+    for i in 0..points.size() {
+        if !is_new(points, PointId(i)) {
             return false;
         }
-        i += 1;
     }
     true
 }
 
-// Position i of a ring of n points.
-fn position_at(n: usize, i: usize) -> Position
-    requires { (n ≤ 256) × (i < n) }
-    ensures { result ≡ position n i }
+// The point at a position of the points in their own order is collinear with those before and after it.
+fn is_colinear(points: Points<'_>, at: Position) -> bool
+    requires { (at.size ≡ points.n) × (at.id.0 < points.n) }
+    ensures { result ≡ is_straight_line points.entry.n (spots points.entry) (up_from 0 points.entry.n) at.id.0 }
 {
-    Position {
-        id: PositionId(i as u16),
-        size: n as u16,
-    }
+    let before = points.at(PointId(at.prev().id.0));
+    let here = points.at(PointId(at.id.0));
+    let after = points.at(PointId(at.next().id.0));
+    turn_of(before, here, after) == 0
 }
 
-// The vertex at position i is collinear with its neighbours.
-fn colinear_at(n: usize, x: &[i32], y: &[i32], ring: &[u16], i: usize) -> bool
-    requires { RingOver n x.now y.now ring.now × (i < n) }
-    ensures { result ≡ is_straight_line n (points x.now y.now) ring.now i }
+// Check 7 for the points in their own order, with no ring lent.
+pub fn colinear_in_order(points: Points<'_>) -> bool
+    ensures { result ≡ all_below points.entry.n (is_straight_line points.entry.n (spots points.entry) (up_from 0 points.entry.n)) }
 {
-    is_colinear(x, y, ring, position_at(n, i))
+    let size = points.size();
+    for i in 0..size {
+        let id = PositionId(i);
+        if !is_colinear(points, Position { id, size }) {
+            return false;
+        }
+    }
+    true
 }
 
 // Check 7: every vertex is collinear with its neighbours.
-pub fn all_colinear(n: usize, x: &[i32], y: &[i32], ring: &[u16]) -> bool
-    requires { RingOver n x.now y.now ring.now }
-    ensures { result ≡ all_below n (is_straight_line n (points x.now y.now) ring.now) }
+pub fn all_colinear(points: Points<'_>, ring: &[u16]) -> bool
+    requires { IsRing points.n ring.now }
+    ensures { result ≡ all_below points.entry.n (is_straight_line points.entry.n (spots points.entry) ring.now) }
 {
-    let mut i = 0;
-    while i < n {
-        if !colinear_at(n, x, y, ring, i) {
+    let size = points.size();
+    for i in 0..size {
+        let id = PositionId(i);
+        if !Vertex::new(points, ring, Position { id, size }).is_colinear() {
             return false;
         }
-        i += 1;
     }
     true
 }
 
-// Of two positions, that of the lesser point.
-fn lesser_at(n: usize, x: &[i32], y: &[i32], ring: &[u16], i: usize, j: usize) -> usize
-    requires { RingOver n x.now y.now ring.now × (i < n) × (j < n) }
-    ensures { result ≡ lesser_at (points x.now y.now) ring.now i j }
+// Of two positions, that of the lesser point. `on` stands somewhere on the ring.
+fn lesser_at(on: Vertex<'_>, i: Position, j: Position) -> Position
+    requires { On on i × On on j }
+    ensures { result ≡ position on.entry.points.n (lesser_at (point_of on.entry) (ring_of on.entry) i.id.0 j.id.0) }
 {
-    let a = number_at(ring, position_at(n, i));
-    let b = number_at(ring, position_at(n, j));
-    if less_at(x, y, a, b) {
-        return i;
+    if on.at(i).point() < on.at(j).point() {
+        i
+    } else {
+        j
     }
-    j
 }
 
 // The position of the least point.
-fn least_at(n: usize, x: &[i32], y: &[i32], ring: &[u16]) -> usize
-    requires { RingOver n x.now y.now ring.now × (0 < n) }
-    ensures { result ≡ least_to n (points x.now y.now) ring.now (n - 1) }
+fn least_at(on: Vertex<'_>) -> Position
+    ensures { result ≡ position on.entry.points.n (least_to on.entry.points.n (point_of on.entry) (ring_of on.entry) (on.entry.points.n - 1)) }
 {
-    let mut least = 0;
-    let mut i = 1;
-    while i < n {
-        least = lesser_at(n, x, y, ring, i, least);
-        i += 1;
+    let size = on.points.size();
+    let mut least = Position {
+        id: PositionId(0),
+        size,
+    };
+    for i in 1..size {
+        let id = PositionId(i);
+        least = lesser_at(on, Position { id, size }, least);
     }
     least
 }
 
 // The least point of the ring turns clockwise.
-pub fn is_clockwise(n: usize, x: &[i32], y: &[i32], ring: &[u16]) -> bool
-    requires { RingOver n x.now y.now ring.now × (0 < n) }
-    ensures { result ≡ clockwise n (points x.now y.now) ring.now }
+pub fn is_clockwise(points: Points<'_>, ring: &[u16]) -> bool
+    requires { IsRing points.n ring.now × (0 < points.n) }
+    ensures { result ≡ clockwise points.entry.n (spots points.entry) ring.now }
 {
-    let least = least_at(n, x, y, ring);
-    orientation(x, y, ring, position_at(n, least)) < 0
+    let first = Position {
+        id: PositionId(0),
+        size: points.size(),
+    };
+    let on = Vertex::new(points, ring, first);
+    on.at(least_at(on)).orientation() < 0
 }

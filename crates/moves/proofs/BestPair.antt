@@ -12,11 +12,10 @@ use Rattle.algebra.specs.Cases.{both, true_or_false}
 use Rattle.geometry.specs.Plane.{Point}
 use Rattle.machine.specs.Board.{kink_at}
 use Rattle.machine.specs.Search.{Mergable, none, merge, or_else, held_at, kink_in, first_kink, search_edges}
-use Rattle.moves.specs.Runs.{mergable_of}
-use Rattle.moves.specs.Best.{unfound, pair_of, better, with_kink, over_kinks}
+use Rattle.moves.specs.Best.{mergable_of, unfound, pair_of, better, with_kink, over_kinks}
 use Rattle.moves.specs.declared.search.Best.{Best}
-use Rattle.moves.specs.declared.search.Mergable.{Mergable as Answer}
-use Rattle.moves.specs.declared.search.Mergable.TheVariants.{Found, Nothing}
+use Rattle.moves.specs.declared.search.Mergable.{Mergable as Pair}
+use Rattle.std.specs.Prelude.{Option, Some, None}
 
 -- ---- answers
 or_else_assoc : (a b c : Mergable) → or_else a (or_else b c) ≡ or_else (or_else a b) c
@@ -32,9 +31,9 @@ or_else_none none = refl
 or_else_none (merge k p) = refl
 
 -- an answer as the code holds it
-abbrev answer_of : Mergable → Answer
-answer_of none = Nothing
-answer_of (merge k p) = Found (record { 0 = k }) (record { 0 = p })
+abbrev answer_of : Mergable → Option Pair
+answer_of none = None
+answer_of (merge k p) = Some (record { kink = record { 0 = k }; edge = record { 0 = p } })
 
 answer_is : (a : Mergable) → mergable_of (answer_of a) ≡ a
 answer_is none = refl

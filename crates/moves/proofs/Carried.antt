@@ -1,59 +1,56 @@
--- A walk along the ring, on or back, that reads each point once: it carries the point at its position and the one that it has just left.
-use mathlib.Core.Path.{◌≡◌, sym, ◌∙◌, ap, subst⁻¹}
+-- A walk along the ring, on or back, that reads each point once: it carries the point at its place and the one that it has just left.
+use mathlib.Core.Path.{◌≡◌, sym, ◌∙◌, ap}
 use mathlib.Core.List.{List}
 use Prim.Native.Nat.{ℕ, ◌<◌}
-use lib.IntN.{ℤ}
-use Rattle.geometry.specs.Plane.{Point}
-use Rattle.geometry.specs.Lent.{points, InRange}
-use Rattle.geometry.proofs.Reading.{here, here_in_range}
+use Rattle.geometry.specs.Plane.{Point, collinear}
+use Rattle.geometry.specs.Lent.{InRange}
+use Rattle.geometry.proofs.Lines.{collinear_back}
 use Rattle.polygon.specs.Ring.{next, prev}
-use Rattle.polygon.specs.Place.{position}
-use Rattle.polygon.specs.declared.position.Position.{Position}
 use Rattle.polygon.proofs.Positions.{next_lt, prev_lt, next_prev, prev_next}
-use Rattle.machine.specs.Board.{pt_at}
-use Rattle.moves.specs.Walk.{RingOver}
-use Rattle.moves.proofs.RingPositions.{at_id, over_at}
-use Rattle.moves.proofs.RingWalk.{Walk, walk_to}
+use Rattle.machine.specs.Board.{pt_at, is_straight_line}
+use Rattle.moves.specs.Walk.{ring_of, place_of, point_of, Moved}
+use Rattle.moves.specs.Runs.{step, opposite}
+use Rattle.moves.specs.declared.vertex.Vertex.{Vertex}
+use Rattle.moves.specs.declared.extremes.Direction.{Direction}
+use Rattle.moves.specs.declared.extremes.Direction.TheVariants.{Back, On}
+use Rattle.moves.proofs.RingPositions.{at_id, moved_point}
+use Rattle.moves.proofs.RingWalk.{Walk, walk_below, walk_to, walk_reads}
+
+pub step_lt : (way : Direction) (n i : ℕ) → i < n → step way n i < n
+step_lt Back n i h = prev_lt n i h
+step_lt On n i h = next_lt n i h
 
 -- a step, and the step that undoes it
-pub record Way (step undo : ℕ → ℕ → ℕ) : Type 0 where
-  pub step_lt : (n i : ℕ) → i < n → step n i < n
-  pub undo_lt : (n i : ℕ) → i < n → undo n i < n
-  pub undone : (n i : ℕ) → i < n → undo n (step n i) ≡ i
+pub undone : (way : Direction) (n i : ℕ) → i < n → step (opposite way) n (step way n i) ≡ i
+undone Back n i h = next_prev n i h
+undone On n i h = prev_next n i h
 
-pub way_on : Way next prev
-way_on = record { step_lt = next_lt; undo_lt = prev_lt; undone = prev_next }
-
-pub way_back : Way prev next
-way_back = record { step_lt = prev_lt; undo_lt = next_lt; undone = next_prev }
-
--- the point behind position i, and the one at it
-pub record Carried (undo : ℕ → ℕ → ℕ) (n : ℕ) (pt : ℕ → Point) (r : List ℕ) (i : ℕ) (b h : Point) : Type 0 where
-  pub behind : b ≡ pt_at pt r (undo n i)
+-- the point behind place i, and the one at it
+pub record Carried (way : Direction) (n : ℕ) (pt : ℕ → Point) (r : List ℕ) (i : ℕ) (b h : Point) : Type 0 where
+  pub behind : b ≡ pt_at pt r (step (opposite way) n i)
   pub here : h ≡ pt_at pt r i
+  pub near_behind : InRange b
+  pub near_here : InRange h
 
-pub in_ring : {n i : ℕ} {x y : List ℤ} {r : List ℕ} {a : Point} → RingOver n x y r → i < n → a ≡ pt_at (points x y) r i → InRange a
-in_ring {i = i} g l e = subst⁻¹ InRange e (here_in_range (here g.lent (g.ring.below i l)))
+-- a vertex is collinear if the points that are carried past it are
+pub straight : (way : Direction) {n : ℕ} {pt : ℕ → Point} {r : List ℕ} {i : ℕ} {b h a : Point} → Carried way n pt r i b h → a ≡ pt_at pt r (step way n i) → collinear b h a ≡ is_straight_line n pt r i
+straight Back {n} {pt} {r} {i} k f = (λ t. collinear (k.behind t) (k.here t) (f t)) ∙ collinear_back (pt_at pt r (next n i)) (pt_at pt r i) (pt_at pt r (prev n i))
+straight On k f = λ t. collinear (k.behind t) (k.here t) (f t)
 
-module _ {step undo : ℕ → ℕ → ℕ} (v : Way step undo) where
+module _ (way : Direction) where
   -- the first two points
-  pub carried_first : {n i : ℕ} {pt : ℕ → Point} {r : List ℕ} {q : Position} {a b : Point} → q ≡ position n (undo n i) → a ≡ pt_at pt r q.id.0 → b ≡ pt_at pt r i → Carried undo n pt r i a b
-  carried_first {pt = pt} {r = r} e f g = record { behind = f ∙ ap (pt_at pt r) (at_id e); here = g }
+  pub carried_first : {v q : Vertex} {a b : Point} → Moved v (step (opposite way) v.points.n (place_of v)) q → a ≡ pt_at (point_of q) (ring_of q) (place_of q) → InRange a →
+      b ≡ pt_at (point_of v) (ring_of v) (place_of v) → InRange b → Carried way v.points.n (point_of v) (ring_of v) (place_of v) a b
+  carried_first m f na g nb = record { behind = moved_point m f; here = g; near_behind = na; near_here = nb }
 
   -- one step
-  module _ {A : Type 0} {n : ℕ} {go : ℕ → ℕ → A} {end : A} {p q : Position} {left : ℕ} (w : Walk n go end p left) (e : q ≡ position p.size (step p.size p.id.0)) where
-    stepped : q ≡ position n (step n p.id.0)
-    stepped = walk_to w step e
-
-    pub step_over : {x y : List ℤ} {r : List ℕ} → RingOver n x y r → RingOver q.size x y r × (q.id.0 < q.size)
-    step_over g = over_at stepped g (v.step_lt n p.id.0 w.below)
-
-    -- the point ahead
-    pub ahead : (pt : ℕ → Point) (r : List ℕ) {a : Point} → a ≡ pt_at pt r q.id.0 → a ≡ pt_at pt r (step n p.id.0)
-    ahead pt r f = f ∙ ap (pt_at pt r) (at_id stepped)
-
-    pub three_in_range : {x y : List ℤ} {r : List ℕ} {b h a : Point} → RingOver n x y r → Carried undo n (points x y) r p.id.0 b h → a ≡ pt_at (points x y) r q.id.0 → InRange b × InRange h × InRange a
-    three_in_range {x} {y} {r} g k f = (in_ring g (v.undo_lt n p.id.0 w.below) k.behind, in_ring g w.below k.here, in_ring g (v.step_lt n p.id.0 w.below) (ahead (points x y) r f))
-
-    pub carried_on : {pt : ℕ → Point} {r : List ℕ} {b h a : Point} → Carried undo n pt r p.id.0 b h → a ≡ pt_at pt r q.id.0 → Carried undo n pt r q.id.0 h a
-    carried_on {pt} {r} k f = record { behind = k.here ∙ ap (pt_at pt r) (sym (v.undone n p.id.0 w.below) ∙ ap (undo n) (sym (at_id stepped))); here = f }
+  pub carried_on : {A : Type 0} {v : Vertex} {go : ℕ → ℕ → A} {end : A} {w q : Vertex} {left : ℕ} (k : Walk v go end w left) (m : Moved w (step way w.points.n (place_of w)) q) {b h a : Point} →
+      Carried way v.points.n (point_of v) (ring_of v) (place_of w) b h → a ≡ pt_at (point_of q) (ring_of q) (place_of q) → InRange a → Carried way v.points.n (point_of v) (ring_of v) (place_of q) h a
+  carried_on {v = v} {w = w} k m c f na =
+      let e = at_id (walk_to k (step way) m) in
+      record {
+        behind = c.here ∙ ap (pt_at (point_of v) (ring_of v)) (sym (undone way v.points.n (place_of w) (walk_below k)) ∙ ap (step (opposite way) v.points.n) (sym e));
+        here = walk_reads k (step way) m f ∙ ap (pt_at (point_of v) (ring_of v)) (sym e);
+        near_behind = c.near_here;
+        near_here = na;
+      }

@@ -7,26 +7,25 @@ use native.Mathlib.Omega.{arith}
 use native.Mathlib.Numerals.{add-one}
 use lib.ListN.{length, length-append}
 use Rattle.algebra.specs.Cases.{both, true_or_false, le_cases}
+use Rattle.std.specs.Prelude.{Option, None}
 use Rattle.geometry.specs.Plane.{Point, lt_point}
 use Rattle.geometry.specs.Segment.{inside}
 use Rattle.geometry.proofs.Points.{inside_is, lt_point_not}
-use Rattle.polygon.specs.Ring.{next, prev, stretch, IsRing}
-use Rattle.polygon.specs.Place.{position}
-use Rattle.polygon.specs.declared.position.Position.{Position}
-use Rattle.polygon.proofs.Positions.{next_lt}
+use Rattle.polygon.specs.Ring.{next, stretch, IsRing}
 use Rattle.machine.specs.Board.{Board, pt_at, kink_at}
 use Rattle.machine.specs.Search.{held_at, search_edges, kink_and_edge}
 use Rattle.machine.proofs.Corners.{has_corner, ring_apart}
 use Rattle.machine.proofs.Kinks.{never_none}
-use Rattle.moves.specs.Walk.{Both}
-use Rattle.moves.specs.Runs.{mergable_of, run_from, points_of, edges_of, run_points, run_edges, Folded}
-use Rattle.moves.specs.Best.{unfound, pair_of, better, looking, with_kink, over_kinks}
+use Rattle.moves.specs.Walk.{ring_of, place_of, point_of, Moved}
+use Rattle.moves.specs.Runs.{run_from, points_of, edges_of, run_points, run_edges, Folded}
+use Rattle.moves.specs.Best.{mergable_of, unfound, pair_of, better, looking, with_kink, over_kinks}
 use Rattle.moves.specs.declared.extremes.Run.{Run}
 use Rattle.moves.specs.declared.search.Best.{Best}
-use Rattle.moves.specs.declared.search.Mergable.{Mergable as Answer}
-use Rattle.moves.specs.declared.search.Mergable.TheVariants.{Nothing}
+use Rattle.moves.specs.declared.search.Mergable.{Mergable as Pair}
+use Rattle.moves.specs.declared.extremes.Direction.TheVariants.{On}
+use Rattle.moves.specs.declared.vertex.Vertex.{Vertex}
 use Rattle.moves.proofs.RingWalk.{Walk, walk_steps}
-use Rattle.moves.proofs.Carried.{Carried, way_on, ahead}
+use Rattle.moves.proofs.Carried.{Carried}
 use Rattle.moves.proofs.BestPair.{kinks_append, better_late, kinks_late, better_here, better_on, better_append, best_found, search_twice}
 
 length_stretch : (n i k : ℕ) → length (stretch n i k) ≡ k
@@ -108,27 +107,12 @@ module _ (n : ℕ) (pt : ℕ → Point) (r : List ℕ) where
   best_moves ps k b e f = f ∙ rw e
 
   -- ---- over the points of a run: a point is a kink by those that are carried past it
-  pub kink_is : {A : Type 0} {go : ℕ → ℕ → A} {end : A} {p q : Position} {left : ℕ} → Walk n go end p left → q ≡ position p.size (next p.size p.id.0) →
-      {b h a : Point} → Carried prev n pt r p.id.0 b h → a ≡ pt_at pt r q.id.0 → not (inside b a h) ≡ kink_at n pt r p.id.0
-  kink_is w e k f = let g = ahead way_on w e pt r f in λ t. not (inside (k.behind t) (g t) (k.here t))
+  pub kink_is : {i : ℕ} {b h a : Point} → Carried On n pt r i b h → a ≡ pt_at pt r (next n i) → not (inside b a h) ≡ kink_at n pt r i
+  kink_is k f = λ t. not (inside (k.behind t) (f t) (k.here t))
 
   -- its points, counted as the loop counts them
   pub all_points : (ps : List ℕ) (s : Run) (b : Best) → over_kinks n pt r ps (stretch n s.from.id.0 (s.edges + 1)) b ≡ over_kinks n pt r ps (points_of n s) b
   all_points ps s b = ap (λ m. over_kinks n pt r ps (stretch n s.from.id.0 m) b) (add-one s.edges)
-
-  module _ (s t : Run) {b : Best} {end : Best} {q : Position} {left : ℕ} (w : Walk n (λ m i. over_kinks n pt r (run_edges n s t) (stretch n i m) b) end q left) where
-    pub kink_goes : 0 < left → {b' : Best} → b' ≡ with_kink n pt r (run_edges n s t) q.id.0 b → {q' : Position} → q' ≡ position q.size (next q.size q.id.0) →
-        Walk n (λ m i. over_kinks n pt r (run_edges n s t) (stretch n i m) b') end q' (left - 1)
-    kink_goes h e f =
-        walk_steps w next f (next_lt n q.id.0 w.below)
-        (ap (over_kinks n pt r (run_edges n s t) (stretch n (next n q.id.0) (left - 1))) e
-        ∙ sym (ap (λ m. over_kinks n pt r (run_edges n s t) (stretch n q.id.0 m) b) (let z : left ≡ suc (left - 1) = omega arith in z)))
-
-    pub kinks_stop : b.passed ≡ 0 → b ≡ end
-    kinks_stop h = sym (kinks_late n pt r (run_edges n s t) (stretch n q.id.0 left) b (omega arith)) ∙ w.same
-
-    pub kinks_end : left ≤ 0 → b ≡ end
-    kinks_end h = sym (ap (λ m. over_kinks n pt r (run_edges n s t) (stretch n q.id.0 m) b) (let z : left ≡ 0 = omega arith in z)) ∙ w.same
 
   -- ---- all points of one run or of two
   pub one_run : (s : Run) {b : Best} → b ≡ over_kinks n pt r (run_edges n s (record { from = s.from; edges = 0 })) (points_of n s) (unfound s.edges) → mergable_of b.found ≡ search_edges n pt r (points_of n s) (edges_of n s)
@@ -142,20 +126,36 @@ module _ (n : ℕ) (pt : ℕ → Point) (r : List ℕ) where
       best_found n pt r (run_points n s t) (run_edges n s t) (sym (length-append (edges_of n s) (edges_of n t) ∙ (λ j. edges_count s j + edges_count t j)))
       (f ∙ ap (over_kinks n pt r (run_edges n s t) (points_of n t)) e ∙ sym (kinks_append n pt r (run_edges n s t) (points_of n s) (points_of n t) (unfound (s.edges + t.edges))))
 
+-- ---- a walk over the points of a run keeps the best pair so far
+module _ (v : Vertex) (s t : Run) where
+  abbrev pub go_on : Best → ℕ → ℕ → Best
+  go_on b m i = over_kinks v.points.n (point_of v) (ring_of v) (run_edges v.points.n s t) (stretch v.points.n i m) b
+
+  module _ {b : Best} {end : Best} {w : Vertex} {left : ℕ} (k : Walk v (go_on b) end w left) where
+    pub kink_goes : {m : ℕ} → suc m ≡ left → {b' : Best} → b' ≡ with_kink v.points.n (point_of v) (ring_of v) (run_edges v.points.n s t) (place_of w) b → {q : Vertex} →
+        Moved w (next w.points.n (place_of w)) q → Walk v (go_on b') end q m
+    kink_goes {m} h e d =
+        walk_steps k next d (ap (over_kinks v.points.n (point_of v) (ring_of v) (run_edges v.points.n s t) (stretch v.points.n (next v.points.n (place_of w)) m)) e ∙ ap (λ m. go_on b m (place_of w)) h)
+
+    pub kinks_stop : b.passed ≡ 0 → b ≡ end
+    kinks_stop h = sym (kinks_late v.points.n (point_of v) (ring_of v) (run_edges v.points.n s t) (stretch v.points.n (place_of w) left) b (omega arith)) ∙ k.same
+
+    pub kinks_end : left ≡ 0 → b ≡ end
+    kinks_end h = sym (ap (λ m. go_on b m (place_of w)) h) ∙ k.same
+
 -- ---- both runs are those of the edges at i and j
 pub both_runs : (n : ℕ) (pt : ℕ → Point) (r : List ℕ) (i j : ℕ) {a b : Run} → a ≡ run_from n pt r i → b ≡ run_from n pt r j →
-    search_edges a.from.size pt r (run_points a.from.size a b) (run_edges a.from.size a b) ≡ kink_and_edge n pt r i j
-both_runs n pt r i j e f = λ t. search_edges (e t).from.size pt r (run_points (e t).from.size (e t) (f t)) (run_edges (e t).from.size (e t) (f t))
+    search_edges n pt r (run_points n a b) (run_edges n a b) ≡ kink_and_edge n pt r i j
+both_runs n pt r i j e f = λ t. search_edges n pt r (run_points n (e t) (f t)) (run_edges n (e t) (f t))
 
 -- the same where one run has both edges
 pub run_of_both : (n : ℕ) (pt : ℕ → Point) (r : List ℕ) (i j : ℕ) {a : Run} → a ≡ run_from n pt r i → run_from n pt r j ≡ run_from n pt r i →
-    search_edges a.from.size pt r (points_of a.from.size a) (edges_of a.from.size a) ≡ kink_and_edge n pt r i j
-run_of_both n pt r i j {a} e z = search_twice a.from.size pt r (points_of a.from.size a) (edges_of a.from.size a) ∙ both_runs n pt r i j e (e ∙ sym z)
+    search_edges n pt r (points_of n a) (edges_of n a) ≡ kink_and_edge n pt r i j
+run_of_both n pt r i j {a} e z = search_twice n pt r (points_of n a) (edges_of n a) ∙ both_runs n pt r i j e (e ∙ sym z)
 
 -- ---- on a board the search is never none
-pub never_nothing : {p q : Position} {pt : ℕ → Point} {r : List ℕ} {m : Answer} → IsRing p.size r → Board p.size pt → Both p q → Folded p.size pt r p.id.0 q.id.0 →
-    m ≡ Nothing → mergable_of m ≡ kink_and_edge p.size pt r p.id.0 q.id.0 → ⊥
-never_nothing {p} {q} {pt} {r} ring board b f e h =
-    let n = p.size in
+pub never_nothing : (n : ℕ) (pt : ℕ → Point) (r : List ℕ) {i j : ℕ} {m : Option Pair} → IsRing n r → Board n pt → i < n → j < n → Folded n pt r i j →
+    m ≡ None → mergable_of m ≡ kink_and_edge n pt r i j → ⊥
+never_nothing n pt r {i} {j} ring board li lj f e h =
     let (c, lc, co) = has_corner n pt board.three board.distinct r ring board.not_line in
-    never_none n pt r board.three (ring_apart n pt r ring board.distinct) c lc co p.id.0 q.id.0 b.first b.second f.apart f.one_line f.meet (sym h ∙ ap mergable_of e)
+    never_none n pt r board.three (ring_apart n pt r ring board.distinct) c lc co i j li lj f.apart f.one_line f.meet (sym h ∙ ap mergable_of e)

@@ -4,21 +4,23 @@ use mathlib.Core.Bool.{true, false, cond}
 use mathlib.Core.List.{List}
 use Prim.Native.Nat.{ℕ, suc, ◌<◌}
 use Rattle.algebra.specs.Cases.{both, le_cases}
+use Rattle.std.specs.Prelude.{Option, Some}
 use Rattle.geometry.specs.Plane.{Point}
 use Rattle.index_edge.specs.Edge.{Edge}
 use Rattle.polygon.specs.Ring.{next, at, IsRing}
 use Rattle.polygon.specs.Edges.{IsEdge, edge_at, direct}
 use Rattle.polygon.specs.Change.{Plan, uncross, hoist}
-use Rattle.polygon.specs.declared.position.PositionId.{PositionId}
+use Rattle.polygon.specs.Place.{position}
+use Rattle.polygon.specs.declared.position.Position.{Position}
 use Rattle.polygon.proofs.Positions.{next_lt}
 use Rattle.machine.specs.Board.{Board, meet_edges}
 use Rattle.machine.specs.Search.{plan_for, flat, plan_at, kink_and_edge}
 use Rattle.machine.proofs.EdgesMeet.{meets_ends}
 use Rattle.machine.proofs.Planned.{direct_finds}
-use Rattle.moves.specs.Runs.{mergable_of, Folded}
+use Rattle.moves.specs.Runs.{Folded}
 use Rattle.moves.specs.Plan.{Met, Crossing}
-use Rattle.moves.specs.declared.search.Mergable.{Mergable as Answer}
-use Rattle.moves.specs.declared.search.Mergable.TheVariants.{Found}
+use Rattle.moves.specs.Best.{mergable_of}
+use Rattle.moves.specs.declared.search.Mergable.{Mergable as Pair}
 
 -- a ring edge's ends are points of the ring
 pub edge_below : {n : ℕ} {r : List ℕ} {e : Edge} → IsRing n r → IsEdge n r e → (e.lo < n) × (e.hi < n)
@@ -59,8 +61,12 @@ module _ (n : ℕ) (pt : ℕ → Point) (r : List ℕ) (a b : ℕ) where
   pub plan_uncross : flat n pt r a b ≡ false → uncross a b ≡ plan_at n pt r a b
   plan_uncross e = sym (ap (λ t. cond t (plan_for (kink_and_edge n pt r a b)) (uncross a b)) e)
 
-  pub plan_hoist : {m : Answer} {k p : PositionId} → Folded n pt r a b → m ≡ Found k p → mergable_of m ≡ kink_and_edge n pt r a b → hoist k.0 p.0 ≡ plan_at n pt r a b
+  pub plan_hoist : {m : Option Pair} {p : Pair} → Folded n pt r a b → m ≡ Some p → mergable_of m ≡ kink_and_edge n pt r a b → hoist p.kink.0 p.edge.0 ≡ plan_at n pt r a b
   plan_hoist z e f = by_line z.one_line (ap plan_for (sym (ap mergable_of e) ∙ f))
 
 pub folded : {n : ℕ} {pt : ℕ → Point} {r : List ℕ} {a b : ℕ} → Met n pt r a b → flat n pt r a b ≡ true → Folded n pt r a b
 folded m e = record { apart = m.apart; one_line = e; meet = m.meet }
+
+-- the ring's length is the number of points
+pub directed : {n m : ℕ} (r : List ℕ) (e : Edge) {q : Position} → n ≡ m → q ≡ position m (direct m r e) → q ≡ position n (direct n r e)
+directed r e h f = f ∙ ap (λ m. position m (direct m r e)) (sym h)

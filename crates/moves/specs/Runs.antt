@@ -1,19 +1,28 @@
--- The runs of two edges as the code holds them, and what the search over them answers.
+-- The runs of two edges as the code holds them.
 use Rattle.std.specs.Prelude.{◌≡◌, true, List, ◌++◌, ◌≢◌, ℕ, suc, ◌<◌}
 use Rattle.geometry.specs.Plane.{Point}
 use Rattle.geometry.specs.Segment.{meets}
-use Rattle.polygon.specs.Ring.{next, dist, stretch}
+use Rattle.polygon.specs.Ring.{next, prev, dist, stretch}
 use Rattle.polygon.specs.Place.{position}
 use Rattle.machine.specs.Board.{pt_at}
-use Rattle.machine.specs.Search.{Mergable, none, merge, run_back, run_on, flat}
+use Rattle.machine.specs.Search.{run_back, run_on, flat}
 use Rattle.moves.specs.declared.extremes.Run.{Run}
-use Rattle.moves.specs.declared.search.Mergable.{Mergable as Answer}
-use Rattle.moves.specs.declared.search.Mergable.TheVariants.{Found, Nothing}
+use Rattle.moves.specs.declared.extremes.Direction.{Direction}
+use Rattle.moves.specs.declared.extremes.Direction.TheVariants.{Back, On}
 
--- What the search's enum says: a kink and an edge, or none.
-abbrev pub mergable_of : Answer → Mergable
-mergable_of (Found k p) = merge k.0 p.0
-mergable_of Nothing = none
+-- one place back, or on
+abbrev pub step : Direction → ℕ → ℕ → ℕ
+step Back n i = prev n i
+step On n i = next n i
+
+abbrev pub opposite : Direction → Direction
+opposite Back = On
+opposite On = Back
+
+-- the corner that a walk of at most k steps comes to
+abbrev pub corner : Direction → ℕ → (ℕ → Point) → ℕ → List ℕ → ℕ → ℕ
+corner Back n pt k r i = run_back n pt k r i
+corner On n pt k r i = run_on n pt k r i
 
 -- The run of the edge at a.
 abbrev pub run_from : ℕ → (ℕ → Point) → List ℕ → ℕ → Run

@@ -1,16 +1,29 @@
--- A ring over lent points, and positions on it.
-use Rattle.std.specs.Prelude.{◌≡◌, List, ℕ, ◌<◌, ℤ}
-use Rattle.geometry.specs.Lent.{Lent}
-use Rattle.polygon.specs.Ring.{IsRing}
+-- Places on a ring over lent points.
+use Rattle.std.specs.Prelude.{◌≡◌, List, ℕ, ◌<◌}
+use Rattle.geometry.specs.Plane.{Point}
+use Rattle.geometry.specs.Spots.{spots}
+use Rattle.polygon.specs.Place.{position}
 use Rattle.polygon.specs.declared.position.Position.{Position}
+use Rattle.moves.specs.declared.vertex.Vertex.{Vertex}
 
--- n points are lent, within the limits, and r is a ring of them
-pub record RingOver (n : ℕ) (x y : List ℤ) (r : List ℕ) : Type 0 where
-  pub lent : Lent n x y
-  pub ring : IsRing n r
+-- the ring on which a vertex stands, and its place there
+abbrev pub ring_of : Vertex → List ℕ
+ring_of v = v.cursor.ring.now
 
--- two positions of one ring
-pub record Both (p q : Position) : Type 0 where
-  pub same : q.size ≡ p.size
-  pub first : p.id.0 < p.size
-  pub second : q.id.0 < p.size
+abbrev pub place_of : Vertex → ℕ
+place_of v = v.cursor.position.id.0
+
+-- point number i of those that the ring names
+abbrev pub point_of : Vertex → ℕ → Point
+point_of v = spots v.points
+
+-- the place i of the same ring over the same points
+pub record Moved (v : Vertex) (i : ℕ) (w : Vertex) : Type 0 where
+  pub points : w.points ≡ v.points
+  pub ring : w.cursor.ring ≡ v.cursor.ring
+  pub position : w.cursor.position ≡ position v.points.n i
+
+-- a position of the ring on which a vertex stands
+pub record On (v : Vertex) (q : Position) : Type 0 where
+  pub size : q.size ≡ v.points.n
+  pub below : q.id.0 < v.points.n

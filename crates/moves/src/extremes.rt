@@ -1,23 +1,50 @@
 // The run of an edge (two_opt.rs, `linear_extremes`): it stretches back and on past collinear vertices to a corner.
 ghost use Rattle.std.specs.Prelude.{◌≡◌, ◌<◌};
 ghost use Rattle.geometry.specs.Plane.{collinear};
-ghost use Rattle.geometry.specs.Lent.{spot, points, InRange};
+ghost use Rattle.geometry.specs.Lent.{spot, InRange};
 ghost use Rattle.polygon.specs.Place.{position};
 ghost use Rattle.polygon.specs.Ring.{dist};
-ghost use Rattle.machine.specs.Search.{run_back, run_on};
-ghost use Rattle.moves.specs.Walk.{RingOver};
-ghost use Rattle.moves.specs.Runs.{run_from};
+ghost use Rattle.moves.specs.Walk.{ring_of, place_of, point_of, Moved};
+ghost use Rattle.moves.specs.Runs.{step, opposite, corner, run_from};
 
-use super::vertex::point_of;
+use super::vertex::Vertex;
 use geometry::orientation::turn_of;
 use geometry::point::Point;
 use polygon::position::Position;
 
 // A stretch of the ring: where it starts, and how many edges it has.
-#[derive(Clone, Copy)]
+#[derive(Clone, Copy, Debug, PartialEq, Eq)]
 pub struct Run {
     pub from: Position,
     pub edges: u16,
+}
+
+// Which way a walk goes.
+#[derive(Clone, Copy, Debug, PartialEq, Eq)]
+pub enum Direction {
+    Back,
+    On,
+}
+
+impl Direction {
+    fn opposite(self) -> Direction
+        ensures { result ≡ opposite self }
+    {
+        match self {
+            Direction::Back => Direction::On,
+            Direction::On => Direction::Back,
+        }
+    }
+
+    // The place beside a vertex.
+    fn step(self, at: Vertex<'_>) -> Vertex<'_>
+        ensures { Moved at.entry (step self at.entry.points.n (place_of at.entry)) result }
+    {
+        match self {
+            Direction::Back => at.prev(),
+            Direction::On => at.next(),
+        }
+    }
 }
 
 // Three points within the limits lie on one line.
@@ -28,50 +55,24 @@ fn on_line(a: Point, b: Point, c: Point) -> bool
     turn_of(a, b, c) == 0
 }
 
-// Back from a position to a corner. A walk of as many steps as there are points has met one.
-fn run_back(x: &[i32], y: &[i32], ring: &[u16], start: Position) -> Position
-    requires { RingOver start.size x.now y.now ring.now × (start.id.0 < start.size) }
-    ensures { result ≡ position start.size (run_back start.size (points x.now y.now) start.size ring.now start.id.0) }
+// From a vertex to a corner. A walk of as many steps as there are points has met one. Each point is read once.
+fn corner(start: Vertex<'_>, way: Direction) -> Position
+    ensures { result ≡ position start.entry.points.n (corner way start.entry.points.n (point_of start.entry) start.entry.points.n (ring_of start.entry) (place_of start.entry)) }
 {
     let mut at = start;
-    let mut after = point_of(x, y, ring, at.next());
-    let mut here = point_of(x, y, ring, at);
-    let mut left = start.size;
-    while left > 0 {
-        let prev = at.prev();
-        let before = point_of(x, y, ring, prev);
-        if !on_line(before, here, after) {
-            return at;
+    let mut behind = way.opposite().step(start).point();
+    let mut here = start.point();
+    for _ in 0..start.points.n {
+        let next = way.step(at);
+        let ahead = next.point();
+        if !on_line(behind, here, ahead) {
+            return at.cursor.position;
         }
-        after = here;
-        here = before;
-        at = prev;
-        left -= 1;
-    }
-    at
-}
-
-// On from a position to a corner.
-fn run_on(x: &[i32], y: &[i32], ring: &[u16], start: Position) -> Position
-    requires { RingOver start.size x.now y.now ring.now × (start.id.0 < start.size) }
-    ensures { result ≡ position start.size (run_on start.size (points x.now y.now) start.size ring.now start.id.0) }
-{
-    let mut at = start;
-    let mut before = point_of(x, y, ring, at.prev());
-    let mut here = point_of(x, y, ring, at);
-    let mut left = start.size;
-    while left > 0 {
-        let next = at.next();
-        let after = point_of(x, y, ring, next);
-        if !on_line(before, here, after) {
-            return at;
-        }
-        before = here;
-        here = after;
+        behind = here;
+        here = ahead;
         at = next;
-        left -= 1;
     }
-    at
+    at.cursor.position
 }
 
 // How many places on from one position is another.
@@ -84,17 +85,16 @@ pub fn distance(from: Position, to: Position) -> u16
     if p <= i { i - p } else { i + (from.size - p) }
 }
 
-// The run of the edge that starts at a position.
+// The run of the edge that starts at a vertex.
 // For example, in a ring that bends at b and e only:
 //    a                    f
 //     \- b - c - d -> e -/
 // the run of c is that from b to e.
-pub fn linear_extremes(x: &[i32], y: &[i32], ring: &[u16], at: Position) -> Run
-    requires { RingOver at.size x.now y.now ring.now × (at.id.0 < at.size) }
-    ensures { result ≡ run_from at.size (points x.now y.now) ring.now at.id.0 }
+pub fn linear_extremes(at: Vertex<'_>) -> Run
+    ensures { result ≡ run_from at.entry.points.n (point_of at.entry) (ring_of at.entry) (place_of at.entry) }
 {
-    let min = run_back(x, y, ring, at);
-    let max = run_on(x, y, ring, at.next());
+    let min = corner(at, Direction::Back);
+    let max = corner(at.next(), Direction::On);
     Run {
         from: min,
         edges: distance(min, max),

@@ -2,6 +2,7 @@
 #![tactic(auto)]
 
 pub mod extremes;
+pub mod kink;
 pub mod plan;
 pub mod search;
 pub mod vertex;

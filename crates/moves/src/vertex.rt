@@ -1,77 +1,87 @@
-// What stands at a ring position, and how the ring turns there (polygon.rs, `Cursor`).
+// A vertex of the loop: a place on a ring over lent points, and how the ring turns there (polygon.rs, `Cursor`).
 ghost use Rattle.std.specs.Prelude.{◌≡◌, ◌<◌};
-ghost use Rattle.geometry.specs.Lent.{spot, points};
-ghost use Rattle.polygon.specs.Ring.{IsRing, at as entry, next, prev};
-ghost use Rattle.machine.specs.Board.{pt_at, turn_at, is_straight_line};
-ghost use Rattle.machine.specs.Search.{held_at};
-ghost use Rattle.moves.specs.Walk.{RingOver, Both};
+ghost use Rattle.polygon.specs.Ring.{IsRing};
 
-use cursor::point_after;
-use geometry::line_segment::inside_at;
-use geometry::orientation::turn_at;
-use geometry::point::{Point, point_at};
-use polygon::polygon::position_to_point_id;
+use cursor::Cursor;
+use geometry::lent::Points;
+use geometry::line_segment::is_inside;
+use geometry::orientation::turn_of;
+use geometry::point::Point;
 use polygon::position::Position;
 
-// The number of the point at a position, with which the coordinates are indexed.
-pub fn number_at(ring: &[u16], at: Position) -> usize
-    requires { IsRing at.size ring.now × (at.id.0 < at.size) }
-    ensures { result ≡ entry ring.now at.id.0 }
-{
-    let id = at.id;
-    position_to_point_id(ring, id).0 as usize
+#[derive(Clone, Copy)]
+pub struct Vertex<'a> {
+    pub points: Points<'a>,
+    pub cursor: Cursor<'a>,
+    pub ghost on_ring: { IsRing points.n cursor.ring.now × (cursor.position.size ≡ points.n) × (cursor.position.id.0 < points.n) },
 }
 
-// The point itself: a walk along the ring reads each point once and carries it on.
-pub fn point_of(x: &[i32], y: &[i32], ring: &[u16], at: Position) -> Point
-    requires { RingOver at.size x.now y.now ring.now × (at.id.0 < at.size) }
-    ensures { spot result ≡ pt_at (points x.now y.now) ring.now at.id.0 }
-{
-    point_at(x, y, number_at(ring, at))
-}
+impl<'a> Vertex<'a> {
+    ghost use Rattle.std.specs.Prelude.{◌≡◌, ◌<◌};
+    ghost use Rattle.geometry.specs.Segment.{inside};
+    ghost use Rattle.geometry.specs.Lent.{spot, InRange};
+    ghost use Rattle.polygon.specs.Ring.{IsRing, next, prev};
+    ghost use Rattle.machine.specs.Board.{pt_at, turn_at, is_straight_line};
+    ghost use Rattle.moves.specs.Walk.{ring_of, place_of, point_of, Moved, On};
 
-// The number of the point before a position.
-fn number_before(ring: &[u16], at: Position) -> usize
-    requires { IsRing at.size ring.now × (at.id.0 < at.size) }
-    ensures { result ≡ entry ring.now (prev at.size at.id.0) }
-{
-    number_at(ring, at.prev())
-}
+    // The vertex at a position of a ring.
+    pub fn new(points: Points<'a>, ring: &'a [u16], position: Position) -> Vertex<'a>
+        requires { IsRing points.n ring.now × (position.size ≡ points.n) × (position.id.0 < points.n) }
+        ensures { (result.points ≡ points.entry) × (result.cursor.ring ≡ ring.entry) × (result.cursor.position ≡ position) }
+    {
+        let cursor = Cursor::new(ring, position);
+        Vertex { points, cursor }
+    }
 
-// That of the point after it.
-pub fn number_after(ring: &[u16], at: Position) -> usize
-    requires { IsRing at.size ring.now × (at.id.0 < at.size) }
-    ensures { result ≡ entry ring.now (next at.size at.id.0) }
-{
-    point_after(ring, at).0 as usize
-}
+    // The point that stands there.
+    pub fn point(self) -> Point
+        ensures is { spot result ≡ pt_at (point_of self.entry) (ring_of self.entry) (place_of self.entry) }
+        ensures near { InRange (spot result) }
+    {
+        self.points.at(self.cursor.point_id())
+    }
 
-// The turn at a position: of the point before it, itself and the point after it.
-pub fn orientation(x: &[i32], y: &[i32], ring: &[u16], at: Position) -> i64
-    requires { RingOver at.size x.now y.now ring.now × (at.id.0 < at.size) }
-    ensures { result ≡ turn_at at.size (points x.now y.now) ring.now at.id.0 }
-{
-    let before = number_before(ring, at);
-    let here = number_at(ring, at);
-    let after = number_after(ring, at);
-    turn_at(x, y, before, here, after)
-}
+    // Another place on the same ring.
+    pub fn at(self, position: Position) -> Vertex<'a>
+        requires { On self position }
+        ensures { Moved self.entry position.id.0 result }
+    {
+        Vertex::new(self.points, self.cursor.ring, position)
+    }
 
-// Collinear with its neighbours. A position that is not is a corner.
-pub fn is_colinear(x: &[i32], y: &[i32], ring: &[u16], at: Position) -> bool
-    requires { RingOver at.size x.now y.now ring.now × (at.id.0 < at.size) }
-    ensures { result ≡ is_straight_line at.size (points x.now y.now) ring.now at.id.0 }
-{
-    orientation(x, y, ring, at) == 0
-}
+    // One place on.
+    pub fn next(self) -> Vertex<'a>
+        ensures { Moved self.entry (next self.entry.points.n (place_of self.entry)) result }
+    {
+        self.at(self.cursor.position.next())
+    }
 
-// The edge that starts at `edge` holds the point at `kink` strictly inside.
-pub fn holds(x: &[i32], y: &[i32], ring: &[u16], edge: Position, kink: Position) -> bool
-    requires { RingOver edge.size x.now y.now ring.now × Both edge kink }
-    ensures { result ≡ held_at edge.size (points x.now y.now) ring.now kink.id.0 edge.id.0 }
-{
-    let start = number_at(ring, edge);
-    let end = number_after(ring, edge);
-    let point = number_at(ring, kink);
-    inside_at(x, y, start, end, point)
+    // One place back.
+    pub fn prev(self) -> Vertex<'a>
+        ensures { Moved self.entry (prev self.entry.points.n (place_of self.entry)) result }
+    {
+        self.at(self.cursor.position.prev())
+    }
+
+    // The turn of the point before it, itself and the point after it.
+    pub fn orientation(self) -> i64
+        ensures { result ≡ turn_at self.entry.points.n (point_of self.entry) (ring_of self.entry) (place_of self.entry) }
+    {
+        turn_of(self.prev().point(), self.point(), self.next().point())
+    }
+
+    // Collinear with its neighbours. A vertex that is not is a corner.
+    pub fn is_colinear(self) -> bool
+        ensures { result ≡ is_straight_line self.entry.points.n (point_of self.entry) (ring_of self.entry) (place_of self.entry) }
+    {
+        self.orientation() == 0
+    }
+
+    // The edge that starts here holds a point strictly inside.
+    pub fn holds(self, p: Point) -> bool
+        requires { InRange (spot p) }
+        ensures { result ≡ inside (pt_at (point_of self.entry) (ring_of self.entry) (place_of self.entry)) (pt_at (point_of self.entry) (ring_of self.entry) (next self.entry.points.n (place_of self.entry))) (spot p) }
+    {
+        is_inside(self.point(), self.next().point(), p)
+    }
 }

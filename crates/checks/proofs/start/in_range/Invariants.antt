@@ -1,5 +1,4 @@
 -- `in_range` meets its contract. The loop's invariant: every point before i is within the limits.
-use Prim.Native.Nat.{◌≤◌, ◌-◌}
 use mathlib.Core.Path.{◌≡◌}
 use mathlib.Core.Bool.{true}
 use Rattle.algebra.specs.Ranges.{all_below}
@@ -8,7 +7,4 @@ use Rattle.geometry.specs.Lent.{points}
 use Rattle.checks.proofs.start.in_range.Given as goal
 
 abbrev pub invariant-loop-i : goal.invariant-loop-i
-invariant-loop-i l = (l.i ≤ l.n) × (all_below l.i (λ j. near_point (points l.x l.y j)) ≡ true)
-
-abbrev pub decreases-loop-i : goal.decreases-loop-i
-decreases-loop-i l = l.n - l.i
+invariant-loop-i l = all_below l.i (λ j. near_point (points l.x l.y j)) ≡ true

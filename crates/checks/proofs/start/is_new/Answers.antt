@@ -1,29 +1,21 @@
-use native.Mathlib.Omega.{arith}
-use mathlib.Core.Path.{refl, sym, ◌∙◌, ap}
+use mathlib.Core.Path.{sym, ◌∙◌, ap}
 use mathlib.Core.Bool.{not}
-use Rattle.algebra.specs.Ranges.{all_more, all_fails, all_done}
+use Rattle.algebra.specs.Ranges.{all_below, all_fails, all_more}
 use Rattle.geometry.specs.Plane.{eq_point}
-use Rattle.geometry.specs.Lent.{points}
-use Rattle.geometry.proofs.Reading.{here}
+use Rattle.geometry.specs.Lent.{spot}
+use Rattle.geometry.specs.Spots.{spots}
+use Rattle.geometry.proofs.Derived.{same_is}
 use Rattle.checks.proofs.start.is_new.Goals as goal
 
-pub loop-j-init : goal.loop-j-init
-loop-j-init c = (omega arith, refl)
-
-pub alike_at-requires : goal.alike_at-requires
-alike_at-requires c = (here c.requires.0 (omega arith), here c.requires.0 c.requires.1)
-
-pub returns-then-alike_at : goal.returns-then-alike_at
-returns-then-alike_at c =
-    let s = c.args in
-    all_fails (λ j. not (eq_point (points s.x.now s.y.now j) (points s.x.now s.y.now s.i))) s.i c.loop-j.j c.loop-j-test.true (ap not (sym c.alike_at.ensures ∙ c.if-alike_at.true))
+pub returns-then-eq : goal.returns-then-eq
+returns-then-eq c =
+    let pt = spots c.args.points in
+    let same = c.eq.ensures ∙ same_is c.at.result c.at-point.result ∙ ap (λ p. eq_point p (spot c.at-point.result)) c.at.ensures.is in
+    all_fails (λ j. not (eq_point (pt j) (spot c.at-point.result))) c.args.id.0 c.loop-j.j c.loop-j-test.true (ap not (sym same ∙ c.if-eq.true))
+    ∙ ap (λ p. all_below c.args.id.0 (λ j. not (eq_point (pt j) p))) c.at-point.ensures.is
 
 pub loop-j-preserved : goal.loop-j-preserved
 loop-j-preserved c =
-    let s = c.args in
-    (omega arith, all_more (λ j. not (eq_point (points s.x.now s.y.now j) (points s.x.now s.y.now s.i))) c.loop-j.j c.loop-j.invariant.1 (ap not (sym c.alike_at.ensures ∙ c.if-alike_at.false)))
-
-pub returns : goal.returns
-returns c =
-    let s = c.args in
-    all_done (λ j. not (eq_point (points s.x.now s.y.now j) (points s.x.now s.y.now s.i))) s.i c.loop-j.j c.loop-j-test.false c.loop-j.invariant.0 c.loop-j.invariant.1
+    let pt = spots c.args.points in
+    let same = c.eq.ensures ∙ same_is c.at.result c.at-point.result ∙ ap (λ p. eq_point p (spot c.at-point.result)) c.at.ensures.is in
+    all_more (λ j. not (eq_point (pt j) (spot c.at-point.result))) c.loop-j.j c.loop-j.invariant (ap not (sym same ∙ c.if-eq.false))

@@ -1,25 +1,22 @@
 use native.Mathlib.Omega.{arith}
-use Prim.Native.Nat.{◌-◌}
-use mathlib.Core.Path.{◌≡◌, refl, ◌∙◌, ap}
-use Rattle.machine.specs.Answer.{least_to}
-use Rattle.geometry.specs.Lent.{points}
-use Rattle.checks.proofs.Least.{least_more, lesser_lt}
+use Prim.Native.Nat.{◌-◌, ◌<◌}
+use mathlib.Core.Path.{refl, ◌∙◌, ap}
+use Rattle.polygon.specs.Place.{position}
+use Rattle.moves.specs.Walk.{ring_of, point_of}
+use Rattle.moves.proofs.RingPositions.{at_id}
+use Rattle.checks.proofs.Least.{least_more, least_lt}
 use Rattle.checks.proofs.start.least_at.Goals as goal
 
-pub loop-i-init : goal.loop-i-init
-loop-i-init c = (omega arith, omega arith, c.requires.1, refl)
-
 pub lesser_at-least-requires : goal.lesser_at-least-requires
-lesser_at-least-requires c = (c.requires.0, c.loop-i-test.true, c.loop-i.invariant.2)
+lesser_at-least-requires c =
+    let v = c.args.on in
+    let n = v.points.n in
+    let below : c.loop-i.i < n = omega (arith, c.loop-i-test.true, c.size-size.ensures) in
+    let last : c.loop-i.i - 1 < n = omega arith in
+    (record { size = c.size-size.ensures; below = below }, rw c.loop-i.invariant (record { size = refl; below = least_lt n (point_of v) (ring_of v) (c.loop-i.i - 1) last }))
 
 pub loop-i-preserved : goal.loop-i-preserved
 loop-i-preserved c =
-    let g = c.requires.0 in
-    let v = c.loop-i.invariant in
-    (omega arith, omega arith, lesser_lt g c.loop-i-test.true v.2 c.lesser_at-least.ensures, c.lesser_at-least.ensures ∙ least_more g c.loop-i.i c.loop-i.least v.0 v.3)
-
-pub returns : goal.returns
-returns c =
-    let s = c.args in
-    let z : c.loop-i.i ≡ s.n = omega arith in
-    c.loop-i.invariant.3 ∙ ap (λ i. least_to s.n (points s.x.now s.y.now) s.ring.now (i - 1)) z
+    let v = c.args.on in
+    let n = v.points.n in
+    c.lesser_at-least.ensures ∙ ap (position n) (least_more n (point_of v) (ring_of v) c.loop-i.i c.loop-i.least.id.0 (omega (arith, c.loop-i.auto.i)) (at_id c.loop-i.invariant))

@@ -1,19 +1,19 @@
 -- `linear_extremes` meets its contract: its corners are those of the run.
-use Rattle.geometry.specs.Lent.{points}
-use Rattle.polygon.proofs.Positions.{next_lt}
-use Rattle.moves.proofs.RingPositions.{over_at}
-use Rattle.moves.proofs.RunSteps.{corners_within, run_is}
+use mathlib.Core.Path.{◌∙◌}
+use Rattle.polygon.specs.Ring.{dist}
+use Rattle.moves.specs.Walk.{ring_of, point_of}
+use Rattle.moves.specs.declared.extremes.Direction.TheVariants.{On}
+use Rattle.moves.proofs.RunSteps.{moved_corner, back_lt, on_lt}
 use Rattle.moves.proofs.extremes.linear_extremes.Goals as goal
-
-pub run_on-max-requires : goal.run_on-max-requires
-run_on-max-requires c = over_at c.next.ensures c.requires.0 (next_lt _ _ c.requires.1)
 
 pub distance-requires : goal.distance-requires
 distance-requires c =
-    let s = c.args in
-    corners_within (points s.x.now s.y.now) s.ring.now c.requires.1 c.run_back-min.ensures c.next.ensures c.run_on-max.ensures
+    let v = c.args.at in
+    rw (c.corner-min.ensures, moved_corner On c.next.ensures c.corner-max.ensures) (back_lt (point_of v) (ring_of v) v.on_ring.2, on_lt (point_of v) (ring_of v) v.on_ring.2)
 
 pub returns : goal.returns
 returns c =
-    let s = c.args in
-    run_is (points s.x.now s.y.now) s.ring.now c.requires.1 c.run_back-min.ensures c.next.ensures c.run_on-max.ensures c.distance.ensures
+    let e = c.corner-min.ensures in
+    let f = moved_corner On c.next.ensures c.corner-max.ensures in
+    let d = c.distance.ensures ∙ (λ t. dist (e t).size (e t).id.0 (f t).id.0) in
+    λ t. record { from = e t; edges = d t }

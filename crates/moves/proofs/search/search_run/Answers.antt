@@ -1,9 +1,7 @@
 -- `search_run` meets its contract: beside a run with no edges there are only its own.
-use Rattle.geometry.specs.Lent.{points}
+use Rattle.moves.specs.Walk.{ring_of, point_of}
 use Rattle.moves.proofs.KinkSearch.{one_run}
 use Rattle.moves.proofs.search.search_run.Goals as goal
 
 pub returns : goal.returns
-returns c =
-    let s = c.args in
-    one_run s.run.from.size (points s.x.now s.y.now) s.ring.now s.run c.with_run-best.ensures
+returns c = let v = c.args.on in one_run v.points.n (point_of v) (ring_of v) c.args.run c.with_run.ensures

@@ -1,17 +1,19 @@
 -- `with_run` meets its contract. The loop's invariant: the points from here on, with the best pair so far, come to the same pair, and the points at this place and
 -- before it are carried.
-use Rattle.geometry.specs.Lent.{spot, points}
-use Rattle.polygon.specs.Ring.{prev, stretch}
-use Rattle.moves.specs.Runs.{run_edges}
+use Prim.Native.Nat.{suc, ◌-◌}
+use Rattle.geometry.specs.Lent.{spot}
+use Rattle.moves.specs.Walk.{ring_of, place_of, point_of}
+use Rattle.moves.specs.Runs.{points_of, run_edges}
 use Rattle.moves.specs.Best.{over_kinks}
+use Rattle.moves.specs.declared.extremes.Direction.TheVariants.{On}
 use Rattle.moves.proofs.RingWalk.{Walk}
 use Rattle.moves.proofs.Carried.{Carried}
+use Rattle.moves.proofs.KinkSearch.{go_on}
 use Rattle.moves.proofs.search.with_run.Given as goal
 
-abbrev pub invariant-loop-left : goal.invariant-loop-left
-invariant-loop-left l =
-    Walk l.initial.at.size (λ m i. over_kinks l.initial.at.size (points l.x l.y) l.ring (run_edges l.initial.at.size l.a l.b) (stretch l.initial.at.size i m) l.best) (over_kinks l.initial.at.size (points l.x l.y) l.ring (run_edges l.initial.at.size l.a l.b) (stretch l.initial.at.size l.initial.at.id.0 l.initial.left) l.initial.best) l.at l.left
-    × Carried prev l.initial.at.size (points l.x l.y) l.ring l.at.id.0 (spot l.before) (spot l.here)
-
-abbrev pub decreases-loop-left : goal.decreases-loop-left
-decreases-loop-left l = l.left
+abbrev pub invariant-loop : goal.invariant-loop
+invariant-loop l =
+    let v = l.on in
+    let n = v.points.n in
+    Walk v (go_on v l.a l.b l.best) (over_kinks n (point_of v) (ring_of v) (run_edges n l.a l.b) (points_of n l.fn.run) l.fn.start) l.at (suc l.fn.run.edges - l.counter)
+    × Carried On n (point_of v) (ring_of v) (place_of l.at) (spot l.before) (spot l.here)
