@@ -1,23 +1,18 @@
 -- The start of a run, and its picks one after the other.
 use mathlib.Core.Path.{◌≡◌, refl, sym, ◌∙◌, ap, subst}
-use mathlib.Core.Bool.{false, ◌&&◌}
+use mathlib.Core.Bool.{false}
 use mathlib.Core.List.{List, [], ◌∷◌, ◌++◌}
 use Prim.Native.Nat.{ℕ, ◌+◌, ◌≤◌, ◌<◌}
 use native.Mathlib.Omega.{arith}
 use native.Mathlib.Numerals.{add-one}
-use lib.Dec.{ltb}
-use lib.ListN.{length, get_or, take, drop, take-append-drop, length-map}
-use lib.Seq.{take-suc, take-length}
-use borrow.Author.Tests.{ltb-false}
-use Rattle.algebra.specs.Cases.{both, true_or_false}
-use Rattle.algebra.specs.Ranges.{up_from, up_from_length}
+use lib.ListN.{length, get_or, take, drop, take-append-drop}
+use lib.Seq.{take-suc}
 use Rattle.geometry.specs.Plane.{Point}
 use Rattle.index_edge.specs.Edge.{Edge}
 use Rattle.polygon.specs.Ring.{IsRing, index_of}
-use Rattle.polygon.specs.Edges.{edge_at, edges}
+use Rattle.polygon.specs.Edges.{edges}
 use Rattle.intersection_set.specs.Store.{Rec, empty, no_rec, chosen}
 use Rattle.intersection_set.specs.Pool.{Pool}
-use Rattle.intersection_set.specs.Within.{Proper}
 use Rattle.intersection_set.specs.Holds.{Holds}
 use Rattle.machine.specs.Board.{Board}
 use Rattle.machine.specs.Machine.{State, Traced, place, begin, run_word, start, nothing_twice}
@@ -28,9 +23,8 @@ use Rattle.machine.proofs.Bounds.{few}
 use Rattle.machine.proofs.Exactly.{start_exact}
 use Rattle.machine.proofs.Ready.{begin_ready}
 use Rattle.machine.proofs.Moves.{run_append, run_longer, step_log}
-use Rattle.machine.proofs.Turns.{edges_at}
-use Rattle.sweeps.specs.Few.{nowhere, AllProper, FitAll}
-use Rattle.sweeps.proofs.Sweeping.{proper_at}
+use Rattle.sweeps.specs.Several.{FitAll}
+use Rattle.sweeps.specs.declared.pair.Against.TheVariants.{Greater}
 use Rattle.untangle.specs.Running.{state_after, Running, Picked}
 
 -- ---- the start
@@ -47,15 +41,7 @@ module _ (n : ℕ) (pt : ℕ → Point) (r : List ℕ) (h : refusal n pt false r
   pub start_board : Board n pt
   start_board = ok.board
 
-  pub start_two : 2 ≤ n
-  start_two = omega (arith, ok.board.three)
-
-  pub start_proper : AllProper n (edges n r)
-  start_proper i l =
-      let k : i < n = omega (arith, l, length-map (up_from 0 n) (edge_at n r), up_from_length 0 n) in
-      subst (Proper n) (sym (edges_at n r i nowhere k)) (proper_at start_ring start_two i k)
-
-  pub start_room : FitAll n pt r false (edges n r) empty
+  pub start_room : FitAll n pt r Greater (edges n r) empty
   start_room = record { few = few n pt nothing_twice (begin n pt r).now [] (start_exact n pt r) }
 
   -- before the first pick
@@ -85,30 +71,23 @@ module _ {n : ℕ} {pt : ℕ → Point} {s : State} {cs ring index : List ℕ} {
       ∙ step_log n pt place c (run_word n pt place cs (from s)) (λ z. (let q = ap length z in omega (arith, q, l, live_records)))
       ∙ omega (arith, e)
 
--- ---- the end: no record or no pick is left
 none_left : (l : List Rec) → length l ≡ 0 → l ≡ []
 none_left [] e = refl
 none_left (a ∷ l) e = absurd (omega arith)
 
-module _ {n : ℕ} {pt : ℕ → Point} {s : State} {ring index : List ℕ} {p : Pool} (cs : List ℕ) (i : ℕ) (run : Running n pt s (take i cs) ring index p) (few-picks : i ≤ length cs) (stop : (ltb i (length cs) && ltb 0 p.counts.live) ≡ false) where
-  pub same_after : run_word n pt place (take i cs) (from s) ≡ run_word n pt place cs (from s)
-  same_after =
-      both (true_or_false (ltb i (length cs)))
-      (λ t. let z : ltb 0 p.counts.live ≡ false = rw t at stop in
-      let e : (state_after n pt s (take i cs)).store.dense ≡ [] = none_left _ (omega (arith, ltb-false 0 p.counts.live z, live_records run)) in
-      sym (ap (λ (xs : List ℕ). run_word n pt place xs (from s)) (sym (take-append-drop i cs)) ∙ run_longer n pt place (take i cs) (drop i cs) (from s) e))
-      (λ t. let z : i ≡ length cs = omega (arith, ltb-false i (length cs) t, few-picks) in
-      ap (λ (xs : List ℕ). run_word n pt place xs (from s)) (ap (λ k. take k cs) z ∙ take-length cs))
-
-  pub ended : Running n pt s cs ring index p
-  ended = record {
-    few = run.few;
-    board = run.board;
-    ready = run.ready;
-    same_ring = run.same_ring ∙ ap (λ (t : Traced). t.now.ring) same_after;
-    same_index = run.same_index;
-    holds = subst (λ (t : Traced). Holds n p t.now.store) same_after run.holds;
-  }
-
-  pub moves_made : {k : ℕ} → length (run_word n pt place (take i cs) (from s)).log ≡ k → length (run_word n pt place cs (from s)).log ≡ k
-  moves_made e = sym (ap (λ (t : Traced). length t.log) same_after) ∙ e
+-- ---- the end: no record is left
+module _ {n : ℕ} {pt : ℕ → Point} {s : State} {ring index : List ℕ} {p : Pool} (cs : List ℕ) (i : ℕ) (run : Running n pt s (take i cs) ring index p) where
+  pub ended_early : {k : ℕ} → p.counts.live ≡ 0 → length (run_word n pt place (take i cs) (from s)).log ≡ k → Running n pt s cs ring index p × (length (run_word n pt place cs (from s)).log ≡ k)
+  ended_early z e =
+      let none : (state_after n pt s (take i cs)).store.dense ≡ [] = none_left _ (omega (arith, live_records run)) in
+      let same : run_word n pt place (take i cs) (from s) ≡ run_word n pt place cs (from s) = sym (ap (λ (xs : List ℕ). run_word n pt place xs (from s)) (sym (take-append-drop i cs)) ∙ run_longer n pt place (take i cs) (drop i cs) (from s) none) in (
+        record {
+          few = run.few;
+          board = run.board;
+          ready = run.ready;
+          same_ring = run.same_ring ∙ ap (λ (t : Traced). t.now.ring) same;
+          same_index = run.same_index;
+          holds = subst (λ (t : Traced). Holds n p t.now.store) same run.holds;
+        },
+        sym (ap (λ (t : Traced). length t.log) same) ∙ e,
+      )

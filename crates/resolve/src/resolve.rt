@@ -1,8 +1,8 @@
 // A run from a start that the checks accepted: the records of the starting ring, a move for each pick, and the finished loop the right way round.
-ghost use Rattle.std.specs.Prelude.{◌≡◌, false, cond, [], ◌≤◌, eqb};
-ghost use Rattle.geometry.specs.Lent.{points, Lent};
-ghost use Rattle.polygon.specs.Ring.{IsRing, index_of};
-ghost use Rattle.intersection_set.specs.Pool.{lent, pool_of};
+ghost use Rattle.std.specs.Prelude.{◌≡◌, false, cond, [], ◌≤◌, eqb, length};
+ghost use Rattle.geometry.specs.Spots.{spots};
+ghost use Rattle.polygon.specs.Lent.{SameLoans};
+ghost use Rattle.intersection_set.specs.Set.{buffers_in, pool_in, SameBuffers};
 ghost use Rattle.intersection_set.specs.Within.{Room};
 ghost use Rattle.machine.specs.Machine.{State, begin as starting};
 ghost use Rattle.machine.specs.Answer.{finish as finished, refusal};
@@ -11,95 +11,72 @@ ghost use Rattle.resolve.specs.Ended.{Ended, Counted};
 
 use super::run::{begin, run};
 use checks::start::is_clockwise;
-use intersection_set::utils::Counts;
-use polygon::polygon::turn_round;
+use geometry::lent::Points;
+use intersection_set::intersection_set::IndexIntersectionSet;
+use polygon::polygon::Polygon;
 
 // With no record left the loop is reversed whole if its least point turns clockwise.
-fn finish(n: usize, x: &[i32], y: &[i32], left: usize, ring: &mut [u16], index: &mut [u16])
-    requires { Lent n x.now y.now × IsRing n ring.old × (index.old ≡ index_of n ring.old) × (2 ≤ n) }
-    ensures ring { ring.new ≡ cond (eqb left 0) (finished n (points x.now y.now) ring.old) ring.old }
-    ensures index { index.new ≡ index_of n ring.new }
+fn finish(points: Points<'_>, polygon: &mut Polygon<'_>, left: usize)
+    requires { (points.n ≡ length polygon.old.ring.now) × (2 ≤ points.n) }
+    ensures same { SameLoans polygon.old polygon.new }
+    ensures ring { polygon.new.ring.now ≡ cond (eqb left 0) (finished points.entry.n (spots points.entry) polygon.old.ring.now) polygon.old.ring.now }
 {
     if 0 < left {
         return;
     }
-    if !is_clockwise(n, x, y, ring) {
+    if !is_clockwise(points, polygon.as_slice()) {
         return;
     }
-    turn_round(ring, index);
+    polygon.turn_round();
 }
 
 // What a run counts.
-#[derive(Clone, Copy)]
+#[derive(Clone, Copy, Debug, PartialEq, Eq)]
 pub struct Resolved {
     pub moves: usize,
     pub cross: usize,
     pub left: usize,
 }
 
-// From buffers that hold a state which a run can go on from: a move for each pick, and the finished loop the right way round. c counts the records at first.
+// From a set and a ring that hold a state which a run can go on from: a move for each pick, and the finished loop the right way round.
 pub fn go_on(
-    n: usize,
-    x: &[i32],
-    y: &[i32],
+    set: &mut IndexIntersectionSet<'_>,
+    points: Points<'_>,
+    polygon: &mut Polygon<'_>,
     picks: &[u32],
-    ring: &mut [u16],
-    index: &mut [u16],
-    c: Counts,
-    heads: &mut [u16],
-    ends: &mut [u64],
-    links: &mut [u64],
-    dense: &mut [u16],
-    reverse: &mut [u16],
-    free: &mut [u16],
 ) -> Resolved
-    requires { let given = lent heads.old ends.old links.old dense.old reverse.old free.old in
-        Lent n x.now y.now × ((s : State) × Running n (points x.now y.now) s [] ring.old index.old (pool_of given c)) }
-    ensures { let pt = points x.now y.now in
-        let was = lent heads.old ends.old links.old dense.old reverse.old free.old in
-        let is = lent heads.new ends.new links.new dense.new reverse.new free.new in
-        ((s : State) → Running n pt s [] ring.old index.old (pool_of was c)
-        → Counted n pt s picks.now result.moves result.cross result.left
-        × Ended n pt s picks.now ring.new index.new is) }
+    requires { let n = set.old.vertices in
+        (points.n ≡ n) × ((s : State) × Running n (spots points) s [] polygon.old.ring.now polygon.old.index.now (pool_in set.old)) }
+    ensures same { SameBuffers set.old set.new }
+    ensures loans { SameLoans polygon.old polygon.new }
+    ensures ended { let n = set.old.vertices in
+        let pt = spots points.entry in
+        (s : State) → Running n pt s [] polygon.old.ring.now polygon.old.index.now (pool_in set.old)
+        → Counted n pt s picks.now result.moves result.cross result.left × Ended n pt s picks.now polygon.new.ring.now polygon.new.index.now (buffers_in set.new) }
 {
-    let first = c.live;
-    let moved = run(
-        n, x, y, picks, ring, index, c, heads, ends, links, dense, reverse, free,
-    );
-    let left = moved.counts.live;
-    finish(n, x, y, left, ring, index);
-    Resolved {
-        moves: moved.moves,
-        cross: first,
-        left,
-    }
+    let cross = set.len();
+    let moves = run(set, points, polygon, picks);
+    let left = set.len();
+    finish(points, polygon, left);
+    Resolved { moves, cross, left }
 }
 
-// From a start that the checks accepted. Each slice has exactly the entries that check 2 asks for.
+// From a start that the checks accepted.
 pub fn resolve(
-    n: usize,
-    x: &[i32],
-    y: &[i32],
+    set: &mut IndexIntersectionSet<'_>,
+    points: Points<'_>,
+    polygon: &mut Polygon<'_>,
     picks: &[u32],
-    ring: &mut [u16],
-    index: &mut [u16],
-    heads: &mut [u16],
-    ends: &mut [u64],
-    links: &mut [u64],
-    dense: &mut [u16],
-    reverse: &mut [u16],
-    free: &mut [u16],
 ) -> Resolved
-    requires { let given = lent heads.old ends.old links.old dense.old reverse.old free.old in
-        Lent n x.now y.now × (refusal n (points x.now y.now) false ring.old ≡ 0) × (index.old ≡ index_of n ring.old) × Room n given }
-    ensures { let pt = points x.now y.now in
-        let first = (starting n pt ring.old).now in
-        let is = lent heads.new ends.new links.new dense.new reverse.new free.new in
-        Counted n pt first picks.now result.moves result.cross result.left
-        × Ended n pt first picks.now ring.new index.new is }
+    requires { let n = set.old.vertices in
+        (points.n ≡ n) × (refusal n (spots points) false polygon.old.ring.now ≡ 0) × Room n (buffers_in set.old) }
+    ensures same { SameBuffers set.old set.new }
+    ensures loans { SameLoans polygon.old polygon.new }
+    ensures ended { let n = set.old.vertices in
+        let pt = spots points.entry in
+        let first = (starting n pt polygon.old.ring.now).now in
+        Counted n pt first picks.now result.moves result.cross result.left × Ended n pt first picks.now polygon.new.ring.now polygon.new.index.now (buffers_in set.new) }
 {
-    let started = begin(n, x, y, ring, heads, ends, links, dense, reverse, free);
-    go_on(
-        n, x, y, picks, ring, index, started, heads, ends, links, dense, reverse, free,
-    )
+    begin(set, points, polygon.as_slice());
+    go_on(set, points, polygon, picks)
 }

@@ -1,55 +1,58 @@
 -- Sweeps and removals for several edges, one after the other.
 use mathlib.Core.Path.{◌≡◌, refl, sym, ap, subst, ◌∙◌}
-use mathlib.Core.Bool.{Bool, true, false}
-use mathlib.Core.List.{List, [], ◌∷◌, ◌++◌}
+use mathlib.Core.List.{List, [], ◌∷◌, ◌++◌, map}
 use Prim.Native.Nat.{ℕ, suc, ◌+◌, ◌≤◌, ◌<◌}
 use native.Mathlib.Omega.{arith}
 use native.Mathlib.Numerals.{add-one}
-use lib.ListN.{length, get_or, take, drop, take-append-drop}
-use lib.Seq.{take-suc, take-length, get_or-take, length-take-le}
+use lib.ListN.{length, get_or, take, drop, take-append-drop, length-map, get_or-map}
+use lib.Seq.{take-suc, take-length}
 use Rattle.geometry.specs.Plane.{Point}
 use Rattle.index_edge.specs.Edge.{Edge}
 use Rattle.index_edge.specs.Number.{edge_of}
-use Rattle.polygon.specs.Edges.{edges}
+use Rattle.index_edge.specs.declared.IndexEdge.{IndexEdge}
+use Rattle.polygon.specs.Edges.{edge_at, edges}
 use Rattle.intersection_set.specs.Store.{Store, remove_all, removes}
 use Rattle.intersection_set.proofs.Slots.{Grows}
 use Rattle.machine.proofs.Bounds.{scans_append, pairs_append}
 use Rattle.machine.proofs.Kept.{scans_grows, pairs_grows}
-use Rattle.machine.proofs.Turns.{scans_turn, start_outer}
-use Rattle.sweeps.specs.declared.few.Few.{Few}
+use Rattle.machine.proofs.Turns.{scans_turn, start_outer, edges_at}
+use Rattle.sweeps.specs.declared.pair.Against.{Against}
+use Rattle.sweeps.specs.declared.pair.Against.TheVariants.{Others, Greater}
 use Rattle.sweeps.specs.Sweep.{sweep_over, Fits}
-use Rattle.sweeps.specs.Few.{nowhere, few_of, sweeps_over, FitAll}
+use Rattle.sweeps.specs.Several.{nowhere, sweeps_over, FitAll}
 
--- ---- at most three edges
-pub few_length : (f : Few) → f.count ≤ 3 → length (few_of f) ≡ f.count
-few_length f h = length-take-le f.count _ h
+abbrev pub zero_edge : IndexEdge
+zero_edge = record { min = record { 0 = 0 }; max = record { 0 = 0 } }
 
-pub few_at : (f : Few) (i : ℕ) → i < f.count → get_or (few_of f) i nowhere ≡ get_or (edge_of f.first ∷ edge_of f.second ∷ edge_of f.third ∷ []) i nowhere
-few_at f i h = get_or-take f.count _ i nowhere h
+-- ---- an edge of a list, and one of the ring
+pub in_edges : (xs : List IndexEdge) {i : ℕ} → i < length xs → i < length (map edge_of xs)
+in_edges xs l = omega (arith, l, length-map xs edge_of)
+
+pub edge_there : (xs : List IndexEdge) (i : ℕ) → i < length xs → edge_of (get_or xs i zero_edge) ≡ get_or (map edge_of xs) i nowhere
+edge_there xs i l = sym (get_or-map edge_of xs i zero_edge)
+
+pub ring_edge : (n : ℕ) (r : List ℕ) (i : ℕ) → i < n → {e : Edge} → e ≡ edge_at n r i → e ≡ get_or (edges n r) i nowhere
+ring_edge n r i l ee = ee ∙ sym (edges_at n r i nowhere l)
 
 -- ---- sweeps
 module _ (pt : ℕ → Point) where
-  sweeps_append : (b : Bool) (all xs ys : List Edge) (s : Store) → sweeps_over pt b all (xs ++ ys) s ≡ sweeps_over pt b all ys (sweeps_over pt b all xs s)
-  sweeps_append true all xs ys s = scans_append pt all xs ys s
-  sweeps_append false all xs ys s = pairs_append pt all xs ys s
+  sweeps_append : (b : Against) (all xs ys : List Edge) (s : Store) → sweeps_over pt b all (xs ++ ys) s ≡ sweeps_over pt b all ys (sweeps_over pt b all xs s)
+  sweeps_append Others all xs ys s = scans_append pt all xs ys s
+  sweeps_append Greater all xs ys s = pairs_append pt all xs ys s
 
-  sweeps_grows : (b : Bool) (all l : List Edge) (s : Store) → Grows s (sweeps_over pt b all l s)
-  sweeps_grows true all l s = scans_grows pt all l s
-  sweeps_grows false all l s = pairs_grows pt all l s
+  sweeps_grows : (b : Against) (all l : List Edge) (s : Store) → Grows s (sweeps_over pt b all l s)
+  sweeps_grows Others all l s = scans_grows pt all l s
+  sweeps_grows Greater all l s = pairs_grows pt all l s
 
-  sweeps_turn : (b : Bool) (all l : List Edge) (i : ℕ) (s : Store) → i < length l → sweeps_over pt b all (take (suc i) l) s ≡ sweep_over pt b (get_or l i nowhere) all (sweeps_over pt b all (take i l) s)
-  sweeps_turn true all l i s h = scans_turn pt all l i nowhere s h
-  sweeps_turn false all l i s h = start_outer pt all l i nowhere s h
+  sweeps_turn : (b : Against) (all l : List Edge) (i : ℕ) (s : Store) → i < length l → sweeps_over pt b all (take (suc i) l) s ≡ sweep_over pt b (get_or l i nowhere) all (sweeps_over pt b all (take i l) s)
+  sweeps_turn Others all l i s h = scans_turn pt all l i nowhere s h
+  sweeps_turn Greater all l i s h = start_outer pt all l i nowhere s h
 
-  pub sweeps_none : (b : Bool) (all l : List Edge) (s : Store) → s ≡ sweeps_over pt b all (take 0 l) s
-  sweeps_none true all l s = refl
-  sweeps_none false all l s = refl
-
-  pub sweeps_all : (b : Bool) (all l : List Edge) (i : ℕ) (s : Store) → i ≡ length l → sweeps_over pt b all (take i l) s ≡ sweeps_over pt b all l s
+  pub sweeps_all : (b : Against) (all l : List Edge) (i : ℕ) (s : Store) → i ≡ length l → sweeps_over pt b all (take i l) s ≡ sweeps_over pt b all l s
   sweeps_all b all l i s h = ap (λ (m : List Edge). sweeps_over pt b all m s) (ap (λ k. take k l) h ∙ take-length l)
 
   -- a turn of the code: it has the edge e
-  module _ (n : ℕ) (r : List ℕ) (b : Bool) (l : List Edge) (i : ℕ) (s : Store) (h : i < length l) {e : Edge} (q : e ≡ get_or l i nowhere) where
+  module _ (n : ℕ) (r : List ℕ) (b : Against) (l : List Edge) (i : ℕ) (s : Store) (h : i < length l) {e : Edge} (q : e ≡ get_or l i nowhere) where
     pub next_sweep : sweep_over pt b e (edges n r) (sweeps_over pt b (edges n r) (take i l) s) ≡ sweeps_over pt b (edges n r) (take (i + 1) l) s
     next_sweep =
         ap (λ (f : Edge). sweep_over pt b f (edges n r) (sweeps_over pt b (edges n r) (take i l) s)) q

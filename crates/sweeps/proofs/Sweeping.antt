@@ -5,7 +5,6 @@ use mathlib.Core.List.{List, ◌++◌}
 use mathlib.Core.Logic.{◌≢◌}
 use Prim.Native.Nat.{ℕ, suc, ◌+◌, ◌-◌, ◌*◌, ◌≤◌, ◌<◌}
 use native.Mathlib.Omega.{arith}
-use lib.IntN.{ℤ}
 use lib.Dec.{ltb}
 use lib.ListN.{length, get_or, take, drop, take-append-drop, length-map}
 use lib.Seq.{take-length}
@@ -15,7 +14,8 @@ use borrow.Author.Tests.{ltb-true, ltb-false}
 use Rattle.algebra.specs.Cases.{both, not_true, and_left}
 use Rattle.algebra.specs.Counting.{length_snoc}
 use Rattle.geometry.specs.Plane.{Point}
-use Rattle.geometry.specs.Lent.{points, Lent, order_key}
+use Rattle.geometry.specs.Lent.{order_key}
+use Rattle.geometry.specs.Spots.{spots}
 use Rattle.index_edge.specs.Edge.{Edge, edge, eq_edge, lt_edge}
 use Rattle.index_edge.proofs.Edges.{lt_edge_diff}
 use Rattle.index_edge.specs.Number.{edge_of}
@@ -26,14 +26,16 @@ use Rattle.intersection_set.specs.Store.{Store, push, rec_for, slot_for}
 use Rattle.intersection_set.specs.Within.{Proper}
 use Rattle.intersection_set.specs.Holds.{MayPush}
 use Rattle.intersection_set.proofs.Slots.{Grows}
-use Rattle.machine.specs.Board.{Board, meet_edges}
+use Rattle.machine.specs.Board.{Board, Distinct, meet_edges}
 use Rattle.machine.proofs.Bounds.{scan_over_append, pairs_with_append}
 use Rattle.machine.proofs.Kept.{scan_over_grows, pairs_with_grows}
 use Rattle.machine.proofs.Turns.{scan_turn, start_inner, edges_at}
 use Rattle.sweeps.specs.Sweep.{first_of, second_of, wanted, sweep_over, Fits}
-use Rattle.sweeps.specs.Sight.{turn_to, Spans, Sees, Sight}
-use Rattle.sweeps.specs.declared.intersects.Segment.{Segment}
-use Rattle.sweeps.specs.declared.intersects.Seen.{Seen}
+use Rattle.sweeps.specs.Sight.{turn_to, Sees, Sight}
+use Rattle.sweeps.specs.declared.pair.Against.{Against}
+use Rattle.sweeps.specs.declared.pair.Against.TheVariants.{Others, Greater}
+use Rattle.sweeps.specs.declared.segment.Segment.{Segment}
+use Rattle.sweeps.specs.declared.segment.Seen.{Seen}
 
 -- ---- the ends of an edge
 pub proper_edge : (n a b : ℕ) → a < n → b < n → a ≢ b → Proper n (edge a b)
@@ -65,44 +67,44 @@ sees_on n {pt} r {e} {s} i z l =
 pub edge_is : (n : ℕ) (r : List ℕ) (i : ℕ) {v w : ℕ} → v ≡ at r i → w ≡ at r (next n i) → edge v w ≡ edge_at n r i
 edge_is n r i ev ew = λ t. edge (ev t) (ew t)
 
-pub sight : {n : ℕ} {x y : List ℤ} {r : List ℕ} {a : Segment} {from to : Seen} {i : ℕ} → Lent n x y → IsRing n r → Board n (points x y) → Proper n (edge_of a.edge) → i < n → Spans (points x y) a →
-    Sees (points x y) (edge_of a.edge) (at r i) from → Sees (points x y) (edge_of a.edge) (at r (next n i)) to → Sight x y a from to
-sight {n} {r = r} {i = i} lent ring board pe l s f t =
+pub sight : {a : Segment} {n : ℕ} {pt : ℕ → Point} {r : List ℕ} {from to : Seen} {i : ℕ} → a.points.n ≡ n → spots a.points ≡ pt → IsRing n r → Board n pt → i < n →
+    Sees (spots a.points) (edge_of a.edge) (at r i) from → Sees (spots a.points) (edge_of a.edge) (at r (next n i)) to → Sight a from to
+sight {a} {n} {pt} {r} {from} {to} {i} e q ring board l f t =
+    let second = subst⁻¹ (Proper n) (edge_is n r i f.number t.number) (proper_at ring (two board) i l) in
     record {
-      among = record { n = n; lent = lent; distinct = board.distinct; first = pe; second = subst⁻¹ (Proper n) (edge_is n r i f.number t.number) (proper_at ring (two board) i l) };
-      spans = s;
+      among = record { distinct = subst⁻¹ (λ (m : ℕ). Distinct m (spots a.points)) e (subst⁻¹ (Distinct n) q board.distinct); first = a.proper; second = subst⁻¹ (λ m. Proper m (edge from.id.0 to.id.0)) e second };
       first = sees_itself f;
       second = sees_itself t;
     }
 
 -- ---- one turn of the sweep
 module _ (pt : ℕ → Point) where
-  pub sweep_turn : (b : Bool) (e : Edge) (l : List Edge) (i : ℕ) (d : Edge) (s : Store) → i < length l
+  pub sweep_turn : (b : Against) (e : Edge) (l : List Edge) (i : ℕ) (d : Edge) (s : Store) → i < length l
       → sweep_over pt b e (take (suc i) l) s ≡ cond (wanted pt b e (get_or l i d)) (push (first_of b e (get_or l i d)) (second_of b e (get_or l i d)) (sweep_over pt b e (take i l) s)) (sweep_over pt b e (take i l) s)
-  sweep_turn true e l i d s h = scan_turn pt e l i d s h
-  sweep_turn false e l i d s h = start_inner pt e l i d s h
+  sweep_turn Others e l i d s h = scan_turn pt e l i d s h
+  sweep_turn Greater e l i d s h = start_inner pt e l i d s h
 
-  sweep_append : (b : Bool) (e : Edge) (xs ys : List Edge) (s : Store) → sweep_over pt b e (xs ++ ys) s ≡ sweep_over pt b e ys (sweep_over pt b e xs s)
-  sweep_append true e xs ys s = scan_over_append pt e xs ys s
-  sweep_append false e xs ys s = pairs_with_append pt e xs ys s
+  sweep_append : (b : Against) (e : Edge) (xs ys : List Edge) (s : Store) → sweep_over pt b e (xs ++ ys) s ≡ sweep_over pt b e ys (sweep_over pt b e xs s)
+  sweep_append Others e xs ys s = scan_over_append pt e xs ys s
+  sweep_append Greater e xs ys s = pairs_with_append pt e xs ys s
 
-  sweep_grows : (b : Bool) (e : Edge) (l : List Edge) (s : Store) → Grows s (sweep_over pt b e l s)
-  sweep_grows true e l s = scan_over_grows pt e l s
-  sweep_grows false e l s = pairs_with_grows pt e l s
+  sweep_grows : (b : Against) (e : Edge) (l : List Edge) (s : Store) → Grows s (sweep_over pt b e l s)
+  sweep_grows Others e l s = scan_over_grows pt e l s
+  sweep_grows Greater e l s = pairs_with_grows pt e l s
 
   -- a sweep only adds: its end bounds each of its moments
-  pub sweep_part : (b : Bool) (e : Edge) (l : List Edge) (i : ℕ) (s : Store) → length (sweep_over pt b e (take i l) s).dense ≤ length (sweep_over pt b e l s).dense
+  pub sweep_part : (b : Against) (e : Edge) (l : List Edge) (i : ℕ) (s : Store) → length (sweep_over pt b e (take i l) s).dense ≤ length (sweep_over pt b e l s).dense
   sweep_part b e l i s =
       subst (λ (u : Store). length (sweep_over pt b e (take i l) s).dense ≤ length u.dense)
       (sym (sweep_append b e (take i l) (drop i l) s) ∙ ap (λ (m : List Edge). sweep_over pt b e m s) (take-append-drop i l))
       (sweep_grows b e (drop i l) (sweep_over pt b e (take i l) s)).more
 
-  wanted_differ : (b : Bool) (e f : Edge) → wanted pt b e f ≡ true → eq_edge (first_of b e f) (second_of b e f) ≡ false
-  wanted_differ true e f h = not_true (eq_edge f e) (and_left (not (eq_edge f e)) (meet_edges pt f e) h)
-  wanted_differ false e f h = lt_edge_diff e f (and_left (lt_edge e f) (meet_edges pt e f) h)
+  wanted_differ : (b : Against) (e f : Edge) → wanted pt b e f ≡ true → eq_edge (first_of b e f) (second_of b e f) ≡ false
+  wanted_differ Others e f h = not_true (eq_edge f e) (and_left (not (eq_edge f e)) (meet_edges pt f e) h)
+  wanted_differ Greater e f h = lt_edge_diff e f (and_left (lt_edge e f) (meet_edges pt e f) h)
 
   -- a push of this turn is allowed
-  pub may_sweep : (n : ℕ) (b : Bool) (e : Edge) (l : List Edge) (i : ℕ) (d : Edge) (s : Store) → i < length l → Proper n e → Proper n (get_or l i d) → length (sweep_over pt b e l s).dense ≤ n * (n - 1)
+  pub may_sweep : (n : ℕ) (b : Against) (e : Edge) (l : List Edge) (i : ℕ) (d : Edge) (s : Store) → i < length l → Proper n e → Proper n (get_or l i d) → length (sweep_over pt b e l s).dense ≤ n * (n - 1)
       → wanted pt b e (get_or l i d) ≡ true → MayPush n (first_of b e (get_or l i d)) (second_of b e (get_or l i d)) (sweep_over pt b e (take i l) s)
   may_sweep n b e l i d s il pe pf few t =
       record {
@@ -119,46 +121,51 @@ module _ (pt : ℕ → Point) where
             );
       }
     where
-      side : (b : Bool) (f : Edge) → Proper n e → Proper n f → Proper n (first_of b e f)
-      side true f p q = q
-      side false f p q = p
+      side : (b : Against) (f : Edge) → Proper n e → Proper n f → Proper n (first_of b e f)
+      side Others f p q = q
+      side Greater f p q = p
 
-      other : (b : Bool) (f : Edge) → Proper n e → Proper n f → Proper n (second_of b e f)
-      other true f p q = p
-      other false f p q = q
+      other : (b : Against) (f : Edge) → Proper n e → Proper n f → Proper n (second_of b e f)
+      other Others f p q = p
+      other Greater f p q = q
 
 -- ---- the sweep over the ring's edges
-edges_length : (n : ℕ) (r : List ℕ) → length (edges n r) ≡ n
+pub edges_length : (n : ℕ) (r : List ℕ) → length (edges n r) ≡ n
 edges_length n r = length-map (up_from 0 n) (edge_at n r) ∙ up_from_length 0 n
 
 nowhere : Edge
 nowhere = record { lo = 0; hi = 0 }
 
--- a turn of the code at position i: it has the pair f, g and the test ok
-module _ {n : ℕ} {pt : ℕ → Point} {r : List ℕ} (b : Bool) (e : Edge) (i : ℕ) (s : Store) (ring : IsRing n r) (two : 2 ≤ n) (l : i < n) (pe : Proper n e) (fits : Fits n pt r b e s)
-    {f g : Edge} {ok : Bool} (ef : f ≡ first_of b e (edge_at n r i)) (eg : g ≡ second_of b e (edge_at n r i)) (eo : ok ≡ wanted pt b e (edge_at n r i)) where
+-- a turn of the code at position i, where the ring has the edge f
+module _ (n : ℕ) (pt : ℕ → Point) (r : List ℕ) (b : Against) (e : Edge) (i : ℕ) (l : i < n) {f : Edge} (ef : f ≡ edge_at n r i) (s : Store) where
   in_list : i < length (edges n r)
   in_list = omega (arith, l, edges_length n r)
 
-  pub may_now : ok ≡ true → MayPush n f g (sweep_over pt b e (take i (edges n r)) s)
-  may_now t =
-      let z : get_or (edges n r) i nowhere ≡ edge_at n r i = edges_at n r i nowhere l in
-      let q : wanted pt b e (get_or (edges n r) i nowhere) ≡ true = ap (wanted pt b e) z ∙ sym eo ∙ t in
-      let m = may_sweep pt n b e (edges n r) i nowhere s in_list pe (subst⁻¹ (Proper n) z (proper_at ring two i l)) fits.few q in
-      rw (ef, eg) (subst (λ (h : Edge). MayPush n (first_of b e h) (second_of b e h) (sweep_over pt b e (take i (edges n r)) s)) z m)
+  there : get_or (edges n r) i nowhere ≡ f
+  there = edges_at n r i nowhere l ∙ sym ef
 
-  pub next_is : cond ok (push f g (sweep_over pt b e (take i (edges n r)) s)) (sweep_over pt b e (take i (edges n r)) s) ≡ sweep_over pt b e (take (i + 1) (edges n r)) s
-  next_is =
-      let z : get_or (edges n r) i nowhere ≡ edge_at n r i = edges_at n r i nowhere l in
-      let u = sweep_over pt b e (take i (edges n r)) s in
-      rw (ef, eg, eo)
-      (ap (λ (h : Edge). cond (wanted pt b e h) (push (first_of b e h) (second_of b e h) u) u) (sym z)
+  abbrev so_far : Store
+  so_far = sweep_over pt b e (take i (edges n r)) s
+
+  turn : cond (wanted pt b e f) (push (first_of b e f) (second_of b e f) so_far) so_far ≡ sweep_over pt b e (take (i + 1) (edges n r)) s
+  turn =
+      ap (λ (h : Edge). cond (wanted pt b e h) (push (first_of b e h) (second_of b e h) so_far) so_far) (sym there)
       ∙ sym (sweep_turn pt b e (edges n r) i nowhere s in_list)
-      ∙ ap (λ m. sweep_over pt b e (take m (edges n r)) s) (sym (add-one i)))
+      ∙ ap (λ m. sweep_over pt b e (take m (edges n r)) s) (sym (add-one i))
 
-pub sweep_none : (pt : ℕ → Point) (b : Bool) (e : Edge) (l : List Edge) (s : Store) → s ≡ sweep_over pt b e (take 0 l) s
-sweep_none pt true e l s = refl
-sweep_none pt false e l s = refl
+  -- it makes no record
+  pub next_none : wanted pt b e f ≡ false → so_far ≡ sweep_over pt b e (take (i + 1) (edges n r)) s
+  next_none w = ap (λ (k : Bool). cond k (push (first_of b e f) (second_of b e f) so_far) so_far) (sym w) ∙ turn
 
-pub sweep_all : (n : ℕ) (pt : ℕ → Point) (b : Bool) (e : Edge) (r : List ℕ) (i : ℕ) (s : Store) → i ≡ n → sweep_over pt b e (take i (edges n r)) s ≡ sweep_over pt b e (edges n r) s
+  -- it makes one, which may be pushed
+  module _ (w : wanted pt b e f ≡ true) where
+    pub next_some : push (first_of b e f) (second_of b e f) so_far ≡ sweep_over pt b e (take (i + 1) (edges n r)) s
+    next_some = ap (λ (k : Bool). cond k (push (first_of b e f) (second_of b e f) so_far) so_far) (sym w) ∙ turn
+
+    pub may_now : IsRing n r → 2 ≤ n → Proper n e → Fits n pt r b e s → MayPush n (first_of b e f) (second_of b e f) so_far
+    may_now ring two pe fits =
+        let m = may_sweep pt n b e (edges n r) i nowhere s in_list pe (subst⁻¹ (Proper n) (edges_at n r i nowhere l) (proper_at ring two i l)) fits.few (ap (wanted pt b e) there ∙ w) in
+        subst (λ (h : Edge). MayPush n (first_of b e h) (second_of b e h) so_far) there m
+
+pub sweep_all : (n : ℕ) (pt : ℕ → Point) (b : Against) (e : Edge) (r : List ℕ) (i : ℕ) (s : Store) → i ≡ n → sweep_over pt b e (take i (edges n r)) s ≡ sweep_over pt b e (edges n r) s
 sweep_all n pt b e r i s h = ap (λ (m : List Edge). sweep_over pt b e m s) (ap (λ k. take k (edges n r)) (h ∙ sym (edges_length n r)) ∙ take-length (edges n r))

@@ -1,3 +1,5 @@
+pub mod Spans
 pub mod Sight
 pub mod Sweep
-pub mod Few
+pub mod Found
+pub mod Several

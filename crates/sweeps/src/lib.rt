@@ -1,8 +1,7 @@
 // What the start and a move do to the records: one edge against the ring, several of them, and the removal of all records of some edges.
 #![tactic(auto)]
 
-pub mod candidate;
 pub mod edges;
-pub mod few;
-pub mod intersects;
+pub mod pair;
+pub mod segment;
 pub mod sweep;

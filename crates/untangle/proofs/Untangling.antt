@@ -33,7 +33,8 @@ use Rattle.machine.proofs.Ready.{ready_whole}
 use Rattle.machine.proofs.Moves.{run_append}
 use Rattle.machine.proofs.Accepted.{place_picks}
 use Rattle.moves.specs.Plan.{Crossing}
-use Rattle.sweeps.specs.Few.{nowhere, AllProper, FitAll}
+use Rattle.sweeps.specs.Several.{nowhere, AllProper, FitAll}
+use Rattle.sweeps.specs.declared.pair.Against.TheVariants.{Others}
 use Rattle.sweeps.proofs.Sweeping.{proper_at}
 use Rattle.untangle.specs.Running.{state_after, Running, Picked}
 
@@ -111,7 +112,7 @@ module _ (n : ℕ) (pt : ℕ → Point) (board : Board n pt) (s : State) (ready 
         let (j, lj, p) = member_edge n (turned n plan ring) e m in
         subst (Proper n) p (proper_at next_ring two j lj)
 
-    room : FitAll n pt (turned n plan ring) true (lay n plan ring) (removes (cut n plan ring) store)
+    room : FitAll n pt (turned n plan ring) Others (lay n plan ring) (removes (cut n plan ring) store)
     room = record { few = few n pt (twice_of s) (carry n pt plan t.now) (record { hoisted = by_hoist plan; news = lay n plan ring } ∷ t.log) (carry_exact n pt (twice_of s) plan t.now t.log good whole_after.inv.exact) }
 
     next_state_lem : state_after n pt s (cs ++ c ∷ []) ≡ carry n pt plan t.now
@@ -149,11 +150,23 @@ module _ {n : ℕ} {pt : ℕ → Point} {s : State} {cs ring' index : List ℕ} 
   pub planned : {q : Plan} → q ≡ plan_at (length ring') pt ring' (direct (length ring') ring' e) (direct (length ring') ring' f) → q ≡ the_plan
   planned h = h ∙ ap (λ k. plan_at k pt ring' (direct k ring' e) (direct k ring' f)) the_ring.len
 
+  -- the points that the code has are as many
+  pub by_length : {m : ℕ} {q : Plan} → m ≡ n → q ≡ plan_at m pt ring' (direct m ring' e) (direct m ring' f) → q ≡ plan_at (length ring') pt ring' (direct (length ring') ring' e) (direct (length ring') ring' f)
+  by_length h g = g ∙ ap (λ k. plan_at k pt ring' (direct k ring' e) (direct k ring' f)) (h ∙ sym the_ring.len)
+
   pub at_plan : {A : Type 0} (g : ℕ → Plan → List ℕ → A) {v : A} {q : Plan} → v ≡ g (length ring') q ring' → q ≡ the_plan → v ≡ g n the_plan ring'
   at_plan g h i = h ∙ (λ j. g (the_ring.len j) (i j) ring')
 
   pub plan_fits_ring : Fits n the_plan
   plan_fits_ring = rw same_plan (fits n pt run.board s run.ready cs c pick.some)
+
+  -- what the code asks for a plan that it found in a ring by its length
+  module _ {q : Plan} (eq : q ≡ plan_at (length ring') pt ring' (direct (length ring') ring' e) (direct (length ring') ring' f)) where
+    pub plan_asks : Fits (length ring') q
+    plan_asks = rw (the_ring.len, planned eq) plan_fits_ring
+
+    pub at_found : {A : Type 0} (g : ℕ → Plan → List ℕ → A) {v : A} → v ≡ g (length ring') q ring' → v ≡ g n the_plan ring'
+    at_found g h = at_plan g h (planned eq)
 
   pub cuts_proper : AllProper n (cut n the_plan ring')
   cuts_proper = cut_proper n the_plan ring' plan_fits_ring the_ring at_least_two
@@ -164,7 +177,7 @@ module _ {n : ℕ} {pt : ℕ → Point} {s : State} {cs ring' index : List ℕ} 
   pub turned_is_ring : IsRing n (turned n the_plan ring')
   turned_is_ring = rw (same_plan, run.same_ring) (next_ring n pt run.board s run.ready cs c pick.some)
 
-  pub leaves_room : FitAll n pt (turned n the_plan ring') true (lay n the_plan ring') (removes (cut n the_plan ring') (state_after n pt s cs).store)
+  pub leaves_room : FitAll n pt (turned n the_plan ring') Others (lay n the_plan ring') (removes (cut n the_plan ring') (state_after n pt s cs).store)
   leaves_room = rw (same_plan, run.same_ring) (room n pt run.board s run.ready cs c pick.some)
 
   pub then_ring : turned n the_plan ring' ≡ (state_after n pt s (cs ++ c ∷ [])).ring
@@ -173,9 +186,12 @@ module _ {n : ℕ} {pt : ℕ → Point} {s : State} {cs ring' index : List ℕ} 
   pub then_store : scans pt (edges n (turned n the_plan ring')) (lay n the_plan ring') (removes (cut n the_plan ring') (state_after n pt s cs).store) ≡ (state_after n pt s (cs ++ c ∷ [])).store
   then_store = rw (same_plan, run.same_ring) (sym (ap (λ (u : State). u.store) (next_state_lem n pt run.board s run.ready cs c pick.some)))
 
+  pub turned_long : {ring₁ : List ℕ} → ring₁ ≡ turned n the_plan ring' → length ring₁ ≡ n
+  turned_long h = ap length h ∙ turned_is_ring.len
+
   -- ---- the code's values, each known by an equation: the ring after the move, the edges inserted and those removed
   module _ {ring₁ : List ℕ} {ins rem : List Edge} (er : ring₁ ≡ turned n the_plan ring') (ei : ins ≡ lay n the_plan ring') (ed : rem ≡ cut n the_plan ring') where
-    pub room_as : FitAll n pt ring₁ true ins (removes rem (state_after n pt s cs).store)
+    pub room_as : FitAll n pt ring₁ Others ins (removes rem (state_after n pt s cs).store)
     room_as = rw (er, ei, ed) leaves_room
 
     pub next_running : {index₁ : List ℕ} {p₁ : Pool} → index₁ ≡ index_of n ring₁ → Holds n p₁ (scans pt (edges n ring₁) ins (removes rem (state_after n pt s cs).store)) → Running n pt s (cs ++ c ∷ []) ring₁ index₁ p₁

@@ -1,1 +1,3 @@
+pub mod Both
+pub mod Few
 pub mod Running

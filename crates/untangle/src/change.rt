@@ -1,19 +1,37 @@
 // What a move does to the ring (two_opt.rs, in `untangle`): the edges that it removes, those that it inserts, and the new order.
-ghost use Rattle.std.specs.Prelude.{◌≡◌, ◌≤◌, length};
+ghost use Rattle.std.specs.Prelude.{◌≡◌, length, map};
 ghost use Rattle.index_edge.specs.Edge.{edge};
 ghost use Rattle.index_edge.specs.Number.{edge_of};
-ghost use Rattle.polygon.specs.Ring.{IsRing, Indexed, index_of, at as entry};
+ghost use Rattle.polygon.specs.Ring.{IsRing, at as entry};
+ghost use Rattle.polygon.specs.Lent.{SameLoans};
 ghost use Rattle.polygon.specs.Change.{cut, lay, turned, uncross, hoist, Fits};
 ghost use Rattle.moves.specs.Plan.{plan_of};
-ghost use Rattle.moves.specs.Walk.{Both};
-ghost use Rattle.sweeps.specs.Few.{few_of};
+ghost use Rattle.untangle.specs.Both.{Both};
+ghost use Rattle.untangle.specs.Few.{few_of};
 
 use index_edge::IndexEdge;
 use moves::plan::Move;
-use polygon::polygon::{position_to_point_id, vertices_join, vertices_reverse};
-use polygon::position::{Position, PositionId};
+use polygon::polygon::{Polygon, position_to_point_id};
+use polygon::position::Position;
 use sweeps::edges::edge_at;
-use sweeps::few::Few;
+
+// The edges that a move removes, or inserts: two for an uncrossing, three for a hoist.
+#[derive(Clone, Copy, Debug, PartialEq, Eq)]
+pub enum Few {
+    Two([IndexEdge; 2]),
+    Three([IndexEdge; 3]),
+}
+
+impl Few {
+    pub fn as_slice(&self) -> &[IndexEdge]
+        ensures { map edge_of result.now ≡ few_of self.now }
+    {
+        match self {
+            Few::Two(edges) => edges,
+            Few::Three(edges) => edges,
+        }
+    }
+}
 
 // The edge between the points at two positions.
 fn edge_between(ring: &[u16], a: Position, b: Position) -> IndexEdge
@@ -28,119 +46,91 @@ fn edge_between(ring: &[u16], a: Position, b: Position) -> IndexEdge
     )
 }
 
-fn uncross_removes(ring: &[u16], a: Position, b: Position) -> Few
+fn uncross_removes(ring: &[u16], a: Position, b: Position) -> [IndexEdge; 2]
     requires { IsRing a.size ring.now × Both a b }
-    ensures { (few_of result ≡ cut a.size (uncross a.id.0 b.id.0) ring.now) × (result.count ≤ 3) }
+    ensures { map edge_of result ≡ cut a.size (uncross a.id.0 b.id.0) ring.now }
 {
-    let first = edge_at(ring, a);
-    let second = edge_at(ring, b);
-    Few {
-        first: first,
-        second: second,
-        third: second,
-        count: 2,
-    }
+    [edge_at(ring, a), edge_at(ring, b)]
 }
 
-fn uncross_inserts(ring: &[u16], a: Position, b: Position) -> Few
+fn uncross_inserts(ring: &[u16], a: Position, b: Position) -> [IndexEdge; 2]
     requires { IsRing a.size ring.now × Both a b }
-    ensures { (few_of result ≡ lay a.size (uncross a.id.0 b.id.0) ring.now) × (result.count ≤ 3) }
+    ensures { map edge_of result ≡ lay a.size (uncross a.id.0 b.id.0) ring.now }
 {
-    let first = edge_between(ring, a, b);
-    let second = edge_between(ring, a.next(), b.next());
-    Few {
-        first: first,
-        second: second,
-        third: second,
-        count: 2,
-    }
+    [
+        edge_between(ring, a, b),
+        edge_between(ring, a.next(), b.next()),
+    ]
 }
 
-fn hoist_removes(ring: &[u16], kink: Position, edge: Position) -> Few
+fn hoist_removes(ring: &[u16], kink: Position, edge: Position) -> [IndexEdge; 3]
     requires { IsRing kink.size ring.now × Both kink edge }
-    ensures { (few_of result ≡ cut kink.size (hoist kink.id.0 edge.id.0) ring.now) × (result.count ≤ 3) }
+    ensures { map edge_of result ≡ cut kink.size (hoist kink.id.0 edge.id.0) ring.now }
 {
-    let first = edge_at(ring, kink.prev());
-    let second = edge_at(ring, kink);
-    let third = edge_at(ring, edge);
-    Few {
-        first: first,
-        second: second,
-        third: third,
-        count: 3,
-    }
+    [
+        edge_at(ring, kink.prev()),
+        edge_at(ring, kink),
+        edge_at(ring, edge),
+    ]
 }
 
-fn hoist_inserts(ring: &[u16], kink: Position, edge: Position) -> Few
+fn hoist_inserts(ring: &[u16], kink: Position, edge: Position) -> [IndexEdge; 3]
     requires { IsRing kink.size ring.now × Both kink edge }
-    ensures { (few_of result ≡ lay kink.size (hoist kink.id.0 edge.id.0) ring.now) × (result.count ≤ 3) }
+    ensures { map edge_of result ≡ lay kink.size (hoist kink.id.0 edge.id.0) ring.now }
 {
-    let first = edge_between(ring, kink.prev(), kink.next());
-    let second = edge_between(ring, edge, kink);
-    let third = edge_between(ring, kink, edge.next());
-    Few {
-        first: first,
-        second: second,
-        third: third,
-        count: 3,
-    }
-}
-
-fn position_of(ring: &[u16], id: PositionId) -> Position
-    requires { length ring.now ≤ 256 }
-    ensures { (result.id ≡ id) × (result.size ≡ length ring.now) }
-{
-    Position {
-        id: id,
-        size: ring.len() as u16,
-    }
+    [
+        edge_between(ring, kink.prev(), kink.next()),
+        edge_between(ring, edge, kink),
+        edge_between(ring, kink, edge.next()),
+    ]
 }
 
 // The edges that a move removes, in order.
-pub fn removed_edges(ring: &[u16], plan: Move) -> Few
-    requires { IsRing (length ring.now) ring.now × (length ring.now ≤ 256) × Fits (length ring.now) (plan_of plan) }
-    ensures { (few_of result ≡ cut (length ring.now) (plan_of plan) ring.now) × (result.count ≤ 3) }
+pub fn removed_edges(polygon: &Polygon<'_>, plan: Move) -> Few
+    requires { Fits (length polygon.now.ring.now) (plan_of plan) }
+    ensures { few_of result ≡ cut (length polygon.now.ring.now) (plan_of plan) polygon.now.ring.now }
 {
+    let ring = polygon.as_slice();
     match plan {
         Move::Uncross { from, to } => {
-            uncross_removes(ring, position_of(ring, from), position_of(ring, to))
+            Few::Two(uncross_removes(ring, polygon.position(from), polygon.position(to)))
         }
         Move::Hoist { kink, edge } => {
-            hoist_removes(ring, position_of(ring, kink), position_of(ring, edge))
+            Few::Three(hoist_removes(ring, polygon.position(kink), polygon.position(edge)))
         }
     }
 }
 
 // The edges that it inserts, in order.
-pub fn inserted_edges(ring: &[u16], plan: Move) -> Few
-    requires { IsRing (length ring.now) ring.now × (length ring.now ≤ 256) × Fits (length ring.now) (plan_of plan) }
-    ensures { (few_of result ≡ lay (length ring.now) (plan_of plan) ring.now) × (result.count ≤ 3) }
+pub fn inserted_edges(polygon: &Polygon<'_>, plan: Move) -> Few
+    requires { Fits (length polygon.now.ring.now) (plan_of plan) }
+    ensures { few_of result ≡ lay (length polygon.now.ring.now) (plan_of plan) polygon.now.ring.now }
 {
+    let ring = polygon.as_slice();
     match plan {
         Move::Uncross { from, to } => {
-            uncross_inserts(ring, position_of(ring, from), position_of(ring, to))
+            Few::Two(uncross_inserts(ring, polygon.position(from), polygon.position(to)))
         }
         Move::Hoist { kink, edge } => {
-            hoist_inserts(ring, position_of(ring, kink), position_of(ring, edge))
+            Few::Three(hoist_inserts(ring, polygon.position(kink), polygon.position(edge)))
         }
     }
 }
 
 // The ring and its index after it.
-pub fn turn_ring(ring: &mut [u16], index: &mut [u16], plan: Move)
-    requires { Indexed (length ring.old) ring.old index.old × (length ring.old ≤ 256) × Fits (length ring.old) (plan_of plan) }
-    ensures { (ring.new ≡ turned (length ring.old) (plan_of plan) ring.old) × (index.new ≡ index_of (length ring.old) ring.new) }
+pub fn turn_ring(polygon: &mut Polygon<'_>, plan: Move)
+    requires { Fits (length polygon.old.ring.now) (plan_of plan) }
+    ensures same { SameLoans polygon.old polygon.new }
+    ensures ring { polygon.new.ring.now ≡ turned (length polygon.old.ring.now) (plan_of plan) polygon.old.ring.now }
 {
     match plan {
         Move::Uncross { from, to } => {
-            let pt1 = position_of(ring, from).next();
-            let pt2 = position_of(ring, to);
-            vertices_reverse(ring, index, pt1, pt2);
+            let pt1 = polygon.position(from).next();
+            polygon.vertices_reverse(pt1, polygon.position(to));
         }
         Move::Hoist { kink, edge } => {
-            let pt1 = position_of(ring, edge);
-            let pt2 = position_of(ring, kink);
-            vertices_join(ring, index, pt1, pt2);
+            let pt1 = polygon.position(edge);
+            polygon.vertices_join(pt1, polygon.position(kink));
         }
     }
 }

@@ -1,20 +1,31 @@
 -- `resolve` meets its contract: the start, then the picks and the end.
-use Rattle.geometry.specs.Lent.{points}
-use Rattle.machine.specs.Machine.{begin}
-use Rattle.resolve.proofs.Picking.{before_picks}
+use mathlib.Core.Path.{sym, subst}
+use Rattle.geometry.specs.Spots.{spots}
+use Rattle.polygon.proofs.Index.{index_is}
+use Rattle.intersection_set.specs.Set.{pool_in}
+use Rattle.intersection_set.specs.Holds.{Holds}
+use Rattle.machine.specs.Machine.{start}
+use Rattle.resolve.proofs.Picking.{start_ring, before_picks}
 use Rattle.resolve.proofs.resolve.resolve.Goals as goal
-
-pub begin-started-requires : goal.begin-started-requires
-begin-started-requires c = let p = c.requires in (p.0, p.1, p.3)
 
 pub go_on-requires : goal.go_on-requires
 go_on-requires c =
-    let r = c.args.ring.now in
-    let pt = points c.args.x.now c.args.y.now in
-    (c.requires.0, ((begin c.args.n pt r).now, before_picks c.args.n pt r c.requires.1 c.requires.2 c.begin-started.ensures))
+    let n = c.args.set.now.vertices in
+    let r = c.args.polygon.now.ring.now in
+    let pt = spots c.args.points in
+    let p = c.requires in
+    let b = c.begin.ensures in
+    let inverse = index_is c.args.polygon.now.indexed (sym (start_ring n pt r p.1).len) in
+    let holds = subst (λ l. Holds n (pool_in c.begin.new.set) (start n pt l)) c.as_slice.ensures b.holds in
+    rw b.same.vertices (p.0, (_, before_picks n pt r p.1 inverse holds))
 
-pub returns : goal.returns
-returns c =
-    let r = c.args.ring.now in
-    let pt = points c.args.x.now c.args.y.now in
-    c.go_on.ensures (begin c.args.n pt r).now (before_picks c.args.n pt r c.requires.1 c.requires.2 c.begin-started.ensures)
+pub returns-clause-ended : goal.returns-clause-ended
+returns-clause-ended c =
+    let n = c.args.set.now.vertices in
+    let r = c.args.polygon.now.ring.now in
+    let pt = spots c.args.points in
+    let p = c.requires in
+    let b = c.begin.ensures in
+    let inverse = index_is c.args.polygon.now.indexed (sym (start_ring n pt r p.1).len) in
+    let holds = subst (λ l. Holds n (pool_in c.begin.new.set) (start n pt l)) c.as_slice.ensures b.holds in
+    (rw b.same.vertices at c.go_on.ensures.ended) _ (before_picks n pt r p.1 inverse holds)

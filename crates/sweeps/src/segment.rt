@@ -1,0 +1,69 @@
+// An edge with what every ring edge that it is compared with asks of it. What is known of a ring point is carried on: each is read once for an edge.
+ghost use Rattle.geometry.specs.Lent.{spot, InRange};
+ghost use Rattle.geometry.specs.Spots.{spots};
+ghost use Rattle.index_edge.specs.Number.{edge_of};
+ghost use Rattle.intersection_set.specs.Within.{Proper};
+ghost use Rattle.sweeps.specs.Spans.{Spans};
+
+use geometry::lent::Points;
+use geometry::orientation::turn_of;
+use geometry::point::Point;
+use index_edge::{IndexEdge, PointId};
+
+// An edge between two of the points, with the points where it ends, and the order keys of the lesser and the greater of them.
+#[derive(Clone, Copy)]
+pub struct Segment<'a> {
+    pub points: Points<'a>,
+    pub edge: IndexEdge,
+    pub min: Point,
+    pub max: Point,
+    pub low: i64,
+    pub high: i64,
+    pub ghost proper: { Proper points.n (edge_of edge) },
+    pub ghost near: { InRange (spot min) × InRange (spot max) },
+    pub ghost spans: { Spans (spots points) (edge_of edge) (spot min) (spot max) low high },
+}
+
+// A point by its number, its order key, and how an edge turns to it.
+#[derive(Clone, Copy, Debug, PartialEq, Eq)]
+pub struct Seen {
+    pub id: PointId,
+    pub key: i64,
+    pub turn: i64,
+}
+
+impl<'a> Segment<'a> {
+    ghost use Rattle.std.specs.Prelude.{◌≡◌, ◌<◌};
+    ghost use Rattle.sweeps.specs.Sight.{Sees};
+
+    pub fn new(points: Points<'a>, edge: IndexEdge) -> Segment<'a>
+        requires { Proper points.n (edge_of edge) }
+        ensures { (result.points ≡ points.entry) × (result.edge ≡ edge) }
+    {
+        let min = points.at(edge.min);
+        let max = points.at(edge.max);
+        let low = min.min(max).order_key();
+        let high = min.max(max).order_key();
+        Segment {
+            points,
+            edge,
+            min,
+            max,
+            low,
+            high,
+        }
+    }
+
+    // A point as the edge sees it.
+    pub fn see(self, id: PointId) -> Seen
+        requires { id.0 < self.points.n }
+        ensures { Sees (spots self.entry.points) (edge_of self.entry.edge) id.0 result }
+    {
+        let v = self.points.at(id);
+        Seen {
+            id,
+            key: v.order_key(),
+            turn: turn_of(self.min, self.max, v),
+        }
+    }
+}
