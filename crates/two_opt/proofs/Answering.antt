@@ -1,28 +1,38 @@
 -- The answer of an entry and what it leaves: of a call that a check refuses, and of one that runs.
 use mathlib.Core.Path.{◌≡◌, refl, sym, ap, ◌∙◌, subst, subst⁻¹}
-use mathlib.Core.Bool.{Bool, true, false, cond}
+use mathlib.Core.Bool.{Bool, true, false, not, cond}
 use mathlib.Core.List.{List, [], ◌∷◌, ◌++◌}
 use Prim.Native.Nat.{ℕ, ◌-◌, ◌*◌, ◌≤◌, ◌<◌}
 use native.Mathlib.Omega.{arith}
-use lib.Dec.{eqb}
+use lib.Dec.{eqb, ltb}
 use lib.IntN.{ℤ}
-use lib.ListN.{length, get_or, take, drop, length-append, length-drop}
+use lib.ListN.{length, get_or, take, drop}
 use lib.Seq.{length-take-le}
 use borrow.Author.Tests.{ne_eqb}
-use Rattle.algebra.specs.Cases.{or_no_left, or_no_right, and_left, and_right}
-use Rattle.geometry.specs.Plane.{Point, near}
-use Rattle.geometry.specs.Lent.{points, Lent, coord}
+use Rattle.algebra.specs.Cases.{or_no_left, or_no_right}
+use Rattle.geometry.specs.Plane.{Point}
+use Rattle.geometry.specs.Lent.{points}
 use Rattle.intersection_set.specs.Pool.{Buffers, lent}
 use Rattle.intersection_set.specs.Within.{Room}
 use Rattle.machine.specs.Machine.{begin, after, place}
-use Rattle.machine.specs.Answer.{Answer, refused, unfinished, delivered, finish, answer, refusal}
+use Rattle.machine.specs.Answer.{refused, unfinished, delivered, finish, answer, in_range, none_alike, refusal}
 use Rattle.machine.proofs.Accepted.{Accepted, accepted}
 use Rattle.untangle.specs.Running.{state_after}
 use Rattle.resolve.specs.Ended.{Counted, last_ring, Ended}
-use Rattle.checks.specs.Checks.{any_below, short}
-use Rattle.two_opt.specs.Entry.{answer_of, Loan, loan, each, front, past, ring_sized, record_sized, short_of, Holding, Ran, Entry}
-use Rattle.two_opt.specs.declared.entries.Answer.{Answer as Answered}
-use Rattle.checks.proofs.Checking.{from_start, long, same_refusal}
+use Rattle.checks.specs.Checks.{any_below, Of}
+use Rattle.two_opt.specs.Entry.{refusal_of, answer_of, Loan, loan, each, front, past, ring_sized, record_sized, short_of, Entry}
+use Rattle.two_opt.specs.declared.entries.Delivered.{Delivered}
+use Rattle.checks.proofs.Checking.{from_start, long, same_refusal, some_number}
+use Rattle.std.specs.Prelude.{Result}
+use Rattle.std.proofs.Common.{Bor}
+use Rattle.algebra.specs.Ranges.{all_below}
+use Rattle.geometry.specs.Spots.{spots}
+use Rattle.geometry.specs.declared.lent.Points.{Points}
+use Rattle.polygon.specs.Ring.{each_once}
+use Rattle.machine.specs.Board.{is_straight_line}
+use Rattle.refusal.specs.Number.{number_of}
+use Rattle.refusal.specs.declared.Refusal.{Refusal}
+use Rattle.refusal.specs.declared.Refusal.TheVariants.{PicksUsedUp}
 
 -- ---- a call that is refused
 pub refused_entry : (n : ℕ) (x y : List ℤ) (r cs : List ℕ) (l : Loan) {k : ℕ} → k ≡ refusal n (points x y) (short_of n x y l) r → 0 < k → Entry n x y r cs l l (refused k)
@@ -62,26 +72,10 @@ drop_part n (a ∷ part) l e = ap (λ k. drop k (a ∷ part ++ l)) (sym e) ∙ d
 pub past_part : {n : ℕ} (m : ℕ) (part l : List ℕ) → m ≡ n → length part ≡ n → drop n (part ++ drop (m - 0) l) ≡ drop n l
 past_part {n} m part l e h = drop_part n part (drop (m - 0) l) h ∙ ap (λ k. drop k l) (from_start m ∙ e)
 
--- and the whole is as long as it was
-pub same_whole : {n : ℕ} (m : ℕ) (part l : List ℕ) → m ≡ n → length part ≡ n → n ≤ length l → length (part ++ drop (m - 0) l) ≡ length l
-same_whole m part l em e h = length-append part (drop (m - 0) l) ∙ omega (arith, em, e, h, length-drop (m - 0) l)
-
 -- ---- a call that runs
 module _ (n : ℕ) (x y : List ℤ) (s : Bool) (r : List ℕ) (ok : refusal n (points x y) s r ≡ 0) where
   pub accepts : Accepted n (points x y) s r
   accepts = (accepted n (points x y) s r).0 ok
-
-  pub runs : refusal n (points x y) false r ≡ 0
-  runs = subst (λ (t : Bool). refusal n (points x y) t r ≡ 0) accepts.long ok
-
-  pub run_lent : n ≤ length x → n ≤ length y → Lent n x y
-  run_lent lx ly = record {
-    few = accepts.few;
-    lx = lx;
-    ly = ly;
-    nx = λ i l. and_left (near (coord x i)) (near (coord y i)) (accepts.range i l);
-    ny = λ i l. and_right (near (coord x i)) (near (coord y i)) (accepts.range i l);
-  }
 
 -- both entries: the number that the code answers is the definition's, and what holds of what was lent where it is 0
 pub number_is : (n : ℕ) (x y : List ℤ) (l : Loan) (r : List ℕ) {k : ℕ} {s : Bool} → (n ≤ 256 → s ≡ short_of n x y l) → k ≡ refusal n (points x y) s r
@@ -162,34 +156,51 @@ module _ (n m : ℕ) (was parts : Loan) (em : m ≡ n * (n - 1)) (lr : length pa
       λ i. loan (past_part n parts.ring was.ring refl lr i) (past_part n parts.index was.index refl li i)
       (lent (past_part m c.heads b.heads em lb.in_heads i) (past_part m c.ends b.ends em lb.in_ends i) (past_part m c.links b.links em lb.in_links i) (past_part m c.dense b.dense em lb.in_dense i) (past_part m c.reverse b.reverse em lb.in_reverse i) (past_part m c.free b.free em lb.in_free i))
 
-  pub ran_parts : (x y : List ℤ) (cs : List ℕ) (a : Answered) {moves cross left : ℕ}
-      → (let s = (begin n (points x y) (take (n - 0) was.ring)).now in Counted n (points x y) s cs moves cross left × Ended n (points x y) s cs parts.ring parts.index parts.records)
+  -- a call that runs from the ring r answers as the machine does, and writes nothing past what check 2 asks for
+  pub entry_parts : (x y : List ℤ) (r cs : List ℕ) (a : Result Delivered Refusal) {moves cross left : ℕ} → refusal n (points x y) (short_of n x y was) r ≡ 0
+      → (let s = (begin n (points x y) r).now in Counted n (points x y) s cs moves cross left × Ended n (points x y) s cs parts.ring parts.index parts.records)
       → ((ring : List ℕ) → answer_of a ring ≡ cond (eqb left 0) (delivered ring moves cross) (unfinished ring moves left))
-      → Ran n x y cs was (written n m was parts) (answer_of a (take n (written n m was parts).ring))
-  ran_parts x y cs a {moves} {cross} {left} (counted, ended) tells =
+      → Entry n x y r cs was (written n m was parts) (answer_of a (take n (written n m was parts).ring))
+  entry_parts x y r cs a ok (counted, ended) tells =
       let pt = points x y in
-      let r : List ℕ = take n was.ring in
-      let e : take (n - 0) was.ring ≡ r = ap (λ k. take k was.ring) (from_start n) in
-      let w : Ended n pt (begin n pt r).now cs parts.ring parts.index parts.records = subst (λ (q : List ℕ). Ended n pt (begin n pt q).now cs parts.ring parts.index parts.records) e ended in
       record {
-        answers = tells _ ∙ ran_answer n pt r cs (subst (λ (q : List ℕ). Counted n pt (begin n pt q).now cs moves cross left) e counted) (ap (λ (l : Loan). l.ring) front_written ∙ w.same_ring);
-        ended = subst⁻¹ (λ (l : Loan). Ended n pt (begin n pt r).now cs l.ring l.index l.records) front_written w;
+        answers = tells _ ∙ ran_answer n pt r cs counted (ap (λ (l : Loan). l.ring) front_written ∙ ended.same_ring) ∙ rw ok refl;
+        untouched = λ no. absurd (no ok);
+        ended = λ _. subst⁻¹ (λ (l : Loan). Ended n pt (begin n pt r).now cs l.ring l.index l.records) front_written ended;
         beyond = past_written;
       }
 
--- ---- an entry that runs
--- check 2 asks for lengths only
-pub same_short : (n : ℕ) (x y : List ℤ) (l l' : Loan) → length l'.ring ≡ length l.ring → length l'.index ≡ length l.index → l'.records ≡ l.records → short_of n x y l' ≡ short_of n x y l
-same_short n x y l l' er ei eb = λ i. short n (length x ∷ length y ∷ er i ∷ ei i ∷ []) (record_sized (eb i))
+-- ---- what is told of the points of a call is told of those that are lent
+module _ {n : ℕ} {x y : Bor (List ℤ)} (p : Points) (o : Of n x y p) where
+  pub told_ended : {r r' : List ℕ} → r' ≡ r → (cs ring index : List ℕ) (b : Buffers) (moves cross left : ℕ)
+      → (let s = (begin p.n (spots p) r').now in Counted p.n (spots p) s cs moves cross left × Ended p.n (spots p) s cs ring index b)
+      → (let s = (begin n (points x.now y.now) r).now in Counted n (points x.now y.now) s cs moves cross left × Ended n (points x.now y.now) s cs ring index b)
+  told_ended e cs ring index b moves cross left h =
+      subst (λ (X : Type 0). X)
+      (λ t. let n = o.0 t in let pt = points (o.1 t).now (o.2 t).now in let s = (begin n pt (e t)).now in Counted n pt s cs moves cross left × Ended n pt s cs ring index b) h
 
--- what it hands on has its starting ring, and past what check 2 asks for all that it was lent itself
-pub ran_entry : (n : ℕ) (x y : List ℤ) (r cs : List ℕ) (was given : Loan) {is : Loan} {a : Answer} → refusal n (points x y) (short_of n x y was) r ≡ 0
-    → take n given.ring ≡ r → past n given ≡ past n was → Ran n x y cs given is a → Entry n x y r cs was is a
-ran_entry n x y r cs was given {is} {a} ok er ep ran =
-    let pt = points x y in
-    record {
-      answers = ran.answers ∙ ap (λ (q : List ℕ). answer n pt q (after n pt place cs q)) er ∙ rw ok refl;
-      untouched = λ no. absurd (no ok);
-      ended = λ _. subst (λ (q : List ℕ). Holding n x y q cs is) er ran.ended;
-      beyond = ran.beyond ∙ ep;
-    }
+-- ---- a refusal of the checks is told by its number
+number_small : (n : ℕ) (pt : ℕ → Point) (s : Bool) (r : List ℕ) → refusal n pt s r ≤ 7
+number_small n pt s r = seven (ltb 256 n) s (not (in_range n pt)) (not (each_once n r)) (not (none_alike n pt)) (ltb n 3) (all_below n (is_straight_line n pt r))
+  where
+    seven : (a b c d e f g : Bool) → cond a 1 (cond b 2 (cond c 3 (cond d 4 (cond e 5 (cond f 6 (cond g 7 0)))))) ≤ 7
+    seven true b c d e f g = omega arith
+    seven false true c d e f g = omega arith
+    seven false false true d e f g = omega arith
+    seven false false false true e f g = omega arith
+    seven false false false false true f g = omega arith
+    seven false false false false false true g = omega arith
+    seven false false false false false false true = omega arith
+    seven false false false false false false false = omega arith
+
+told_by : (r : Refusal) (ring : List ℕ) → number_of r ≤ 7 → refusal_of r ring ≡ refused (number_of r)
+told_by (PicksUsedUp moves left) ring h = absurd (omega arith)
+told_by r ring h = refl
+
+-- a call that is refused
+pub entry_refused : (n : ℕ) (x y : List ℤ) (r cs : List ℕ) (l : Loan) (e : Refusal) {s : Bool} → (n ≤ 256 → s ≡ short_of n x y l) → number_of e ≡ refusal n (points x y) s r
+    → Entry n x y r cs l l (refusal_of e (take n l.ring))
+entry_refused n x y r cs l e {s} h q =
+    let few = subst (λ k. k ≤ 7) (sym q) (number_small n (points x y) s r) in
+    let number = number_is n x y l r h q in
+    subst⁻¹ (λ a. Entry n x y r cs l l a) (told_by e (take n l.ring) few) (refused_entry n x y r cs l number (some_number e))

@@ -1,19 +1,25 @@
--- What the two entries answer, in the document's numbers, and what they leave in what they were lent.
-use Rattle.std.specs.Prelude.{◌≡◌, ◌≢◌, Bool, List, [], ◌∷◌, ℕ, ◌-◌, ◌*◌, ℤ, length, take, drop}
+-- What the two entries answer, with the refusal numbers, and what they leave in what they were lent.
+use Rattle.std.specs.Prelude.{◌≡◌, ◌≢◌, Bool, List, [], ◌∷◌, ℕ, ◌-◌, ◌*◌, ℤ, length, take, drop, Result, Ok, Err}
 use Rattle.geometry.specs.Lent.{points}
 use Rattle.intersection_set.specs.Pool.{Buffers, lent}
-use Rattle.machine.specs.Machine.{begin, after, place}
-use Rattle.machine.specs.Answer.{Answer, refused, unfinished, delivered, answer, refusal, call}
+use Rattle.machine.specs.Machine.{begin}
+use Rattle.machine.specs.Answer.{Answer, refused, unfinished, delivered, refusal, call}
 use Rattle.resolve.specs.Ended.{Ended}
 use Rattle.checks.specs.Checks.{short}
-use Rattle.two_opt.specs.declared.entries.Answer.{Answer as Answered}
-use Rattle.two_opt.specs.declared.entries.Answer.TheVariants.{Delivered, Stopped, Refused}
+use Rattle.refusal.specs.declared.Refusal.{Refusal}
+use Rattle.refusal.specs.declared.Refusal.TheVariants.{PicksUsedUp}
+use Rattle.refusal.specs.Number.{number_of}
+use Rattle.two_opt.specs.declared.entries.Delivered.{Delivered}
 
--- The answer that the code's stands for, with the ring that was lent: 8 is `Stopped`.
-abbrev pub answer_of : Answered → List ℕ → Answer
-answer_of (Delivered moves cross) ring = delivered ring moves cross
-answer_of (Stopped moves left) ring = unfinished ring moves left
-answer_of (Refused number) ring = refused number
+-- A refusal: 8 comes with the ring, the moves made and the records left, any other alone.
+abbrev pub refusal_of : Refusal → List ℕ → Answer
+refusal_of (PicksUsedUp moves left) ring = unfinished ring moves left
+refusal_of r ring = refused (number_of r)
+
+-- The answer that the code's stands for, with the ring that was lent.
+abbrev pub answer_of : Result Delivered Refusal → List ℕ → Answer
+answer_of (Ok d) ring = delivered ring d.moves d.cross
+answer_of (Err r) ring = refusal_of r ring
 
 -- ---- what is lent to be written
 pub record Loan : Type 0 where
@@ -50,12 +56,6 @@ module _ (n : ℕ) (x y : List ℤ) where
   -- The entries that check 2 asks for hold the machine after the picks, from the ring r.
   abbrev pub Holding : List ℕ → List ℕ → Loan → Type 0
   Holding r cs is = Ended n (points x y) (begin n (points x y) r).now cs (front n is).ring (front n is).index (front n is).records
-
-  -- A run from the lent ring: it answers as the machine does, and writes nothing past what check 2 asks for.
-  pub record Ran (cs : List ℕ) (was is : Loan) (a : Answer) : Type 0 where
-    pub answers : a ≡ answer n (points x y) (front n was).ring (after n (points x y) place cs (front n was).ring)
-    pub ended : Holding (front n was).ring cs is
-    pub beyond : past n is ≡ past n was
 
   -- What an entry answers and leaves that starts from the ring r: the machine's answer to the call; all as it was if a check refuses, else the machine after
   -- the picks; nothing is ever written past what check 2 asks for.
