@@ -1,12 +1,10 @@
 -- Areas that share bytes: the test decides it, and what follows for empty areas and for areas one behind the other.
 use mathlib.Core.Path.{◌≡◌, refl}
-use mathlib.Core.Bool.{true, false, ◌&&◌}
+use mathlib.Core.Bool.{true, false}
 use mathlib.Core.Logic.{◌↔◌}
 use Prim.Native.Nat.{ℕ, ◌+◌, ◌≤◌, ◌<◌}
 use native.Mathlib.Omega.{arith}
-use lib.Dec.{ltb}
-use borrow.Author.Tests.{ltb-true, lt-ltb}
-use Rattle.algebra.specs.Cases.{both, le_cases, true_or_false, and_left, and_right}
+use Rattle.algebra.specs.Cases.{both, le_cases}
 use Rattle.job.specs.Job.{SharesBytes, shares_bytes}
 
 module _ (s k t m : ℕ) where
@@ -14,50 +12,33 @@ module _ (s k t m : ℕ) where
   shares : shares_bytes s k t m ≡ true → SharesBytes s k t m
   unfolding shares_bytes
   shares h =
-      let starts = and_left (ltb t (s + k) && ltb s (t + m)) (ltb 0 k && ltb 0 m) h in
-      let sizes = and_right (ltb t (s + k) && ltb s (t + m)) (ltb 0 k && ltb 0 m) h in
-      let a = ltb-true t (s + k) (and_left (ltb t (s + k)) (ltb s (t + m)) starts) in
-      let b = ltb-true s (t + m) (and_right (ltb t (s + k)) (ltb s (t + m)) starts) in
-      let k0 = ltb-true 0 k (and_left (ltb 0 k) (ltb 0 m) sizes) in
-      let m0 = ltb-true 0 m (and_right (ltb 0 k) (ltb 0 m) sizes) in
+      let a : t < s + k = grind arith in
+      let b : s < t + m = grind arith in
+      let sizes : (0 < k) × (0 < m) = (grind arith, grind arith) in
       both (le_cases s t)
-      (λ c. (t, (c.0, a), (omega arith, omega (arith, m0))))
-      (λ c. (s, (omega arith, omega (arith, k0)), (omega (arith, c.0), b)))
+      (λ c. (t, (c.0, a), (omega arith, omega (arith, sizes.1))))
+      (λ c. (s, (omega arith, omega (arith, sizes.0)), (omega (arith, c.0), b)))
 
   shared : SharesBytes s k t m → shares_bytes s k t m ≡ true
   unfolding shares_bytes
-  shared (b, (h, g), (h', g')) =
-      rw (
-        lt-ltb t (s + k) (omega (arith, g, h')),
-        lt-ltb s (t + m) (omega (arith, h, g')),
-        lt-ltb 0 k (omega (arith, h, g)),
-        lt-ltb 0 m (omega (arith, h', g')),
-      )
+  shared (b, (h, g), (h', g')) = grind arith
 
   pub shares_decides : (shares_bytes s k t m ≡ true) ↔ SharesBytes s k t m
   shares_decides = (shares, shared)
 
-  no_byte : (SharesBytes s k t m → ⊥) → shares_bytes s k t m ≡ false
-  no_byte h = both (true_or_false (shares_bytes s k t m)) (λ e. absurd (h (shares e))) (λ e. e)
-
   -- an empty area shares nothing, wherever it starts
   pub empty_first : k ≡ 0 → shares_bytes s k t m ≡ false
-  empty_first e = no_byte (λ w. omega (arith, e, w.1.0, w.1.1))
+  unfolding shares_bytes
+  empty_first e = grind arith
 
   pub empty_second : m ≡ 0 → shares_bytes s k t m ≡ false
-  empty_second e = no_byte (λ w. omega (arith, e, w.2.0, w.2.1))
+  unfolding shares_bytes
+  empty_second e = grind arith
 
   -- an area ends where the other starts, or before
   pub ends_before : s + k ≤ t → shares_bytes s k t m ≡ false
-  ends_before h = no_byte (λ w. omega (arith, h, w.1.1, w.2.0))
-
-  pub starts_after : t + m ≤ s → shares_bytes s k t m ≡ false
-  starts_after h = no_byte (λ w. omega (arith, h, w.1.0, w.2.1))
-
-  -- where none of this holds, the second area is left to be asked whether it is empty
-  pub unless_empty : t < s + k → s < t + m → (k ≡ 0 → ⊥) → ltb 0 m ≡ shares_bytes s k t m
   unfolding shares_bytes
-  unless_empty a b k0 = rw (lt-ltb t (s + k) a, lt-ltb s (t + m) b, lt-ltb 0 k (omega (arith, k0)))
+  ends_before h = grind arith
 
 -- Four points and a pick: one behind the other in both orders, one byte in common in both orders, one in the other; no pick in the middle of the
 -- points, and no point in the middle of ten picks; both empty; and the exporter's case, two picks over the last point.

@@ -5,7 +5,6 @@ use mathlib.Core.Logic.{◌≢◌}
 use Prim.Native.Nat.{ℕ, ◌+◌, ◌≤◌, ◌<◌}
 use native.Mathlib.Omega.{arith}
 use native.Mathlib.Numerals.{add-one}
-use lib.ListN.{length}
 use lib.IntN.{ℤ, pos, negsuc}
 use Rattle.integer_root.specs.Root.{root, root_to}
 use Rattle.integer_root.proofs.Roots.{root_is, root_only, root_below, root_greatest}
@@ -79,7 +78,3 @@ feed_step pt ring i g h = rw (add-one, g, h)
 -- a ring names only points that are lent
 pub ring_drawn : (n : ℕ) (x y : List ℤ) (l : List ℕ) → Lent n x y → IsRing n l → Drawn x y l
 ring_drawn n x y l h g = record { few = omega (arith, h.few, g.len); here = λ k b. here h (g.below k (omega (arith, g.len))) }
-
--- an empty one names none
-pub drawn_empty : (x y : List ℤ) (ring : List ℕ) → length ring ≡ 0 → Drawn x y ring
-drawn_empty x y ring e = record { few = omega (arith, e); here = λ k l. absurd (omega (arith, e, l)) }

@@ -1,6 +1,8 @@
--- Buffers of which a part is written
+-- Buffers of which a part is written, and the writer
 pub mod Written
--- Words, two's complement, and numbers without their sign
+pub mod Writing
+-- Words: their bytes, and two's complement
+pub mod Bytes
 pub mod TwosComplement
 -- Micrometres to steps
 pub mod Rounding

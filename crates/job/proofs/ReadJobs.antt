@@ -1,23 +1,24 @@
 -- What a caller of the reader may rely on, from its contract alone.
-use mathlib.Core.Path.{◌≡◌, sym, ap, ◌∙◌}
-use mathlib.Core.Bool.{Bool, true, false, ◌&&◌}
+use mathlib.Core.Path.{◌≡◌, refl, ap, ◌∙◌}
+use mathlib.Core.Bool.{true, false, ◌&&◌}
 use mathlib.Core.List.{List}
 use Prim.Native.Nat.{ℕ, ◌≤◌}
 use native.Mathlib.Omega.{arith}
 use lib.IntN.{ℤ, pos}
 use lib.ListN.{length}
-use borrow.Author.Tests.{eqb-true, eqb-false}
-use Rattle.algebra.specs.Cases.{both, true_or_false, and_left, and_right}
+use Rattle.algebra.specs.Cases.{and_left, and_right}
 use Rattle.algebra.specs.Ranges.{all_below, all_true}
 use Rattle.geometry.specs.Plane.{near}
-use Rattle.geometry.specs.Answers.{Answer, refused, answered}
+use Rattle.geometry.specs.Answers.{refused, answered}
 use Rattle.geometry.specs.Lent.{coord, Lent}
 use Rattle.job.specs.Words.{word}
 use Rattle.job.specs.Buffers.{over}
-use Rattle.job.specs.Job.{point_count, pick_count, x_at, y_at, pick_at, in_range, refusal, accepted, answer, Counts, outcome_of, Reading}
-use Rattle.job.specs.declared.reader.Outcome.{Outcome}
-use Rattle.job.specs.declared.reader.Outcome.TheVariants.{Read, Refused}
-use Rattle.job.proofs.Refusals.{Accepted, accepted_job}
+use Rattle.job.specs.Job.{point_count, pick_count, x_at, y_at, pick_at, in_range, refusal, accepted, answer, Reading}
+use Rattle.job.specs.declared.reader.Counts.{Counts}
+use Rattle.refusal.specs.declared.Refusal.{Refusal}
+use Rattle.refusal.specs.Number.{number_of}
+use Rattle.std.proofs.Common.{eqb, Result, Ok, Err}
+use Rattle.job.proofs.Refusals.{Accepted, accepted_job, some_number}
 use Rattle.job.proofs.Written.{over_at, length_over}
 
 -- A job that was read: n points and m picks stand at the buffers' start, and it passed every check.
@@ -38,66 +39,37 @@ pub record WasRefused (job : List ℕ) (x y : List ℤ) (picks : List ℕ) (k : 
   pub ys : y' ≡ y
   pub ps : picks' ≡ picks
 
-module _ (job : List ℕ) (x y : List ℤ) (picks : List ℕ) {r : Outcome} {x' y' : List ℤ} {picks' : List ℕ} (g : Reading job x y picks r x' y' picks') where
-  abbrev taken : Bool
-  taken = accepted job (length x) (length y) (length picks)
-
-  -- the answer, by whether the job is accepted
-  said_yes : taken ≡ true → outcome_of r ≡ answered (record { points = point_count job; picks = pick_count job })
-  unfolding answer
-  said_yes t = rw t at g.answers
-
-  said_no : taken ≡ false → outcome_of r ≡ refused (refusal job (length x) (length y) (length picks))
-  unfolding answer
-  said_no t = rw t at g.answers
-
-  pub was_read : {n m : ℕ} → r ≡ Read n m → WasRead job x y picks n m x' y' picks'
-  unfolding accepted
-  was_read {n} {m} e =
-      both (true_or_false taken)
-      (λ t.
-      let h : outcome_of (Read n m) ≡ answered (record { points = point_count job; picks = pick_count job }) = rw e at (said_yes t) in
-      let zero = eqb-true (refusal job (length x) (length y) (length picks)) 0 t in
-      let en : point_count job ≡ n = sym (ap points_of_lem h) in
-      let em : pick_count job ≡ m = sym (ap picks_of h) in
-      record {
+module _ (job : List ℕ) (x y : List ℤ) (picks : List ℕ) {r : Result Counts Refusal} {x' y' : List ℤ} {picks' : List ℕ} (g : Reading job x y picks r x' y' picks') where
+  -- what each answer of the reader says
+  pub was_read : {counts : Counts} → r ≡ Ok counts → WasRead job x y picks counts.points counts.picks x' y' picks'
+  unfolding accepted answer
+  was_read {counts} is =
+      let said : answered counts ≡ answer job (length x) (length y) (length picks) = rw is at g.answers in
+      let zero : refusal job (length x) (length y) (length picks) ≡ 0 = grind arith in
+      let same : counts ≡ record { points = point_count job; picks = pick_count job } = grind arith in
+      rw same (record {
         number = zero;
-        checks = rw (en, em) at (accepted_job job (length x) (length y) (length picks) zero);
-        points_are = en;
-        picks_are = em;
-        xs = rw (t, en) at g.xs;
-        ys = rw (t, en) at g.ys;
-        ps = rw (t, em) at g.ps;
+        checks = accepted_job job (length x) (length y) (length picks) zero;
+        points_are = refl;
+        picks_are = refl;
+        xs = rw zero at g.xs;
+        ys = rw zero at g.ys;
+        ps = rw zero at g.ps;
       })
-      (λ t.
-      let h : outcome_of (Read n m) ≡ refused (refusal job (length x) (length y) (length picks)) = rw e at (said_no t) in
-      absurd (let z : ◌≡◌ {A = ℕ} 0 1 = cc in omega arith))
-    where
-      points_of_lem : Answer Counts → ℕ
-      points_of_lem (refused k) = 0
-      points_of_lem (answered c) = c.points
 
-      picks_of : Answer Counts → ℕ
-      picks_of (refused k) = 0
-      picks_of (answered c) = c.picks
-
-  pub was_refused : {k : ℕ} → r ≡ Refused k → WasRefused job x y picks k x' y' picks'
-  unfolding accepted
-  was_refused {k} e =
-      both (true_or_false taken)
-      (λ t.
-      let h : outcome_of (Refused k) ≡ answered (record { points = point_count job; picks = pick_count job }) = rw e at (said_yes t) in
-      absurd (let z : ◌≡◌ {A = ℕ} 0 1 = cc in omega arith))
-      (λ t.
-      let h : outcome_of (Refused k) ≡ refused (refusal job (length x) (length y) (length picks)) = rw e at (said_no t) in
-      let number : refusal job (length x) (length y) (length picks) ≡ k = cc in
+  pub was_refused : {e : Refusal} → r ≡ Err e → WasRefused job x y picks (number_of e) x' y' picks'
+  unfolding accepted answer
+  was_refused {e} is =
+      let said : refused (number_of e) ≡ answer job (length x) (length y) (length picks) = rw is at g.answers in
+      let number : refusal job (length x) (length y) (length picks) ≡ number_of e = grind arith in
+      let some : eqb (refusal job (length x) (length y) (length picks)) 0 ≡ false = grind (arith, some_number e) in
       record {
         number = number;
-        some = λ z. eqb-false (refusal job (length x) (length y) (length picks)) 0 t (number ∙ z);
-        xs = rw t at g.xs;
-        ys = rw t at g.ys;
-        ps = rw t at g.ps;
-      })
+        some = some_number e;
+        xs = rw some at g.xs;
+        ys = rw some at g.ys;
+        ps = rw some at g.ps;
+      }
 
 -- The points of a job that was read can be lent on: they are few, there, and within the range.
 pub read_lent : {job : List ℕ} {x y : List ℤ} {picks : List ℕ} {n m : ℕ} {x' y' : List ℤ} {picks' : List ℕ} → WasRead job x y picks n m x' y' picks' → Lent n x' y'

@@ -1,15 +1,16 @@
 -- The reader reads back exactly what the encoder wrote.
+use Rattle.std.proofs.lemmas.Grind.{common_steps}
 use mathlib.Core.Path.{◌≡◌, refl, sym, ap, subst, ◌∙◌}
 use mathlib.Core.Bool.{true, false}
-use mathlib.Core.List.{List, [], ◌∷◌, ◌++◌, map, map-map}
+use mathlib.Core.List.{List, ◌++◌, map, map-map}
 use Prim.Native.Nat.{ℕ, zero, suc, ◌+◌, ◌*◌, ◌^◌, ◌≤◌, ◌<◌}
 use native.Mathlib.Omega.{arith}
 use lib.ListN.{length, get_or, take, drop, length-append, get_or-append}
-use lib.Seq.{get_or-append-add, get_or_at}
+use lib.Seq.{get_or-append-add}
+use Rattle.std.proofs.Common.{Result, Some}
 use lib.IntN.{ℤ, pos}
 use lib.Signed.{mag}
-use borrow.Author.Tests.{le-ltb, eq-eqb}
-use Rattle.algebra.specs.Cases.{both, le_cases}
+use borrow.Author.Tests.{eq-eqb}
 use Rattle.algebra.specs.Ranges.{up_from}
 use Rattle.geometry.specs.Answers.{answered}
 use Rattle.geometry.specs.Lent.{coord}
@@ -18,12 +19,14 @@ use Rattle.job.specs.Steps.{steps}
 use Rattle.job.specs.Buffers.{over}
 use Rattle.job.specs.Job.{point_count, point_start, pick_count, pick_start, total, x_in, y_in, pick_at, outside, shares_bytes, refusal, accepted, answer, outcome_of, Reading}
 use Rattle.job.specs.Encoded.{header, pairs, job_of, Made}
-use Rattle.job.specs.declared.reader.Outcome.{Outcome}
+use Rattle.job.specs.declared.reader.Counts.{Counts}
+use Rattle.refusal.specs.declared.Refusal.{Refusal}
 use Rattle.job.proofs.Written.{table, table_is}
 use Rattle.job.proofs.TwosComplement.{Bytes, signed_bits, bits_small}
 use Rattle.job.proofs.Areas.{ends_before}
 use Rattle.job.proofs.Refusals.{no_refusal, of_words}
-use Rattle.job.proofs.Encoding.{Small, none, more, small_append, word_bytes_lem, bytes_of_words, length_pairs, length_job, fitting, made_job}
+use Rattle.job.proofs.Bytes.{Small, none, more, small_append, word_bytes_lem, bytes_of_words}
+use Rattle.job.proofs.Encoding.{length_pairs, length_job, fitting, made_job}
 
 -- every number fits 32 bits
 pub record Fit (l : List ℤ) : Type 0 where
@@ -40,28 +43,16 @@ module _ (x y : List ℤ) where
   pairs_x : (n i : ℕ) → i < n → get_or (pairs x y n) (2 * i) 0 ≡ bits_of (coord x i)
   unfolding pairs
   pairs_x zero i h = absurd (omega arith)
-  pairs_x (suc n) i h =
-      both (le_cases n i)
-      (λ g. rw (let e : i ≡ n = omega (arith, g.0) in e) (get_or_at (pairs x y n) _ _ 0 (2 * n) (length_pairs x y n)))
-      (λ g.
-      let k : 2 * i < length (pairs x y n) = rw (length_pairs x y n) (omega (arith, g.0)) in
-      get_or-append (pairs x y n) _ 0 (2 * i) k ∙ pairs_x n i g.0)
+  pairs_x (suc n) i h = grind (arith, common_steps, length_pairs x y n, pairs_x n i)
 
   pairs_y : (n i : ℕ) → i < n → get_or (pairs x y n) (2 * i + 1) 0 ≡ bits_of (coord y i)
   unfolding pairs
   pairs_y zero i h = absurd (omega arith)
-  pairs_y (suc n) i h =
-      both (le_cases n i)
-      (λ g.
-      let e : i ≡ n = omega (arith, g.0) in
-      rw (e, ← length_pairs x y n) (get_or-append-add (pairs x y n) (bits_of (coord x n) ∷ bits_of (coord y n) ∷ []) 1 0))
-      (λ g.
-      let k : 2 * i + 1 < length (pairs x y n) = rw (length_pairs x y n) (omega (arith, g.0)) in
-      get_or-append (pairs x y n) _ 0 (2 * i + 1) k ∙ pairs_y n i g.0)
+  pairs_y (suc n) i h = grind (arith, common_steps, length_pairs x y n, pairs_y n i)
 
 inside_area : (s k e : ℕ) → 20 ≤ s → s + k ≤ e → outside s k e ≡ false
 unfolding outside
-inside_area s k e h g = rw (le-ltb s 20 h, le-ltb e (s + k) g)
+inside_area s k e h g = grind arith
 
 -- points and picks that the encoder takes
 pub record Encodable (x y : List ℤ) (picks : List ℕ) : Type 0 where
@@ -136,15 +127,13 @@ module _ {x y : List ℤ} {picks : List ℕ} (made : Encodable x y picks) where
 
   x_in_lem : (i : ℕ) → i < n → x_in job i ≡ coord x i
   x_in_lem i h =
-      let a : 2 * i < length (pairs x y n) = rw (length_pairs x y n) (omega arith) in
-      ap signed (rest_word (2 * i) (point_start job + 8 * i) (omega arith) (omega (arith, start_is)) ∙ get_or-append (pairs x y n) picks 0 (2 * i) a ∙ pairs_x x y n i h)
-      ∙ signed_bits (coord x i) (made.fit_x.fit i)
+      let at = rest_word (2 * i) (point_start job + 8 * i) (omega arith) (omega (arith, start_is)) in
+      ap signed (grind (arith, common_steps, at, length_pairs x y n, pairs_x x y n i h)) ∙ signed_bits (coord x i) (made.fit_x.fit i)
 
   y_in_lem : (i : ℕ) → i < n → y_in job i ≡ coord y i
   y_in_lem i h =
-      let a : 2 * i + 1 < length (pairs x y n) = rw (length_pairs x y n) (omega arith) in
-      ap signed (rest_word (2 * i + 1) (point_start job + 4 + 8 * i) (omega arith) (omega (arith, start_is)) ∙ get_or-append (pairs x y n) picks 0 (2 * i + 1) a ∙ pairs_y x y n i h)
-      ∙ signed_bits (coord y i) (made.fit_y.fit i)
+      let at = rest_word (2 * i + 1) (point_start job + 4 + 8 * i) (omega arith) (omega (arith, start_is)) in
+      ap signed (grind (arith, common_steps, at, length_pairs x y n, pairs_y x y n i h)) ∙ signed_bits (coord y i) (made.fit_y.fit i)
 
   pub encoded_xs : table (x_in job) n ≡ x
   encoded_xs = table_is (x_in job) x (pos 0) n refl x_in_lem
@@ -173,7 +162,7 @@ module _ {x y : List ℤ} {picks : List ℕ} (made : Encodable x y picks) where
       encoded_apart a b c refl))
 
 -- What the reader answers and leaves for a job of the points x, y and the picks: their steps and the picks at the start of X, Y and Q.
-pub record Back (x y : List ℤ) (picks : List ℕ) (X Y : List ℤ) (Q : List ℕ) (r : Outcome) (X' Y' : List ℤ) (Q' : List ℕ) : Type 0 where
+pub record Back (x y : List ℤ) (picks : List ℕ) (X Y : List ℤ) (Q : List ℕ) (r : Result Counts Refusal) (X' Y' : List ℤ) (Q' : List ℕ) : Type 0 where
   pub answers : outcome_of r ≡ answered (record { points = length x; picks = length picks })
   pub xs : X' ≡ map steps x ++ drop (length x) X
   pub ys : Y' ≡ map steps y ++ drop (length x) Y
@@ -181,7 +170,7 @@ pub record Back (x y : List ℤ) (picks : List ℕ) (X Y : List ℤ) (Q : List �
 
 encoded_back : {x y : List ℤ} {picks : List ℕ} → Encodable x y picks
     → (X Y : List ℤ) (Q : List ℕ) → length x ≤ length X → length x ≤ length Y → length picks ≤ length Q
-    → {r : Outcome} {X' Y' : List ℤ} {Q' : List ℕ} → Reading (job_of x y picks) X Y Q r X' Y' Q' → Back x y picks X Y Q r X' Y' Q'
+    → {r : Result Counts Refusal} {X' Y' : List ℤ} {Q' : List ℕ} → Reading (job_of x y picks) X Y Q r X' Y' Q' → Back x y picks X Y Q r X' Y' Q'
 unfolding answer accepted over
 encoded_back {x} {y} {picks} made X Y Q hx hy hq {r} {X'} {Y'} {Q'} g =
     let job = job_of x y picks in
@@ -201,12 +190,13 @@ encoded_back {x} {y} {picks} made X Y Q hx hy hq {r} {X'} {Y'} {Q'} g =
           ∙ ap (λ l. l ++ drop (length picks) Q) (table_is (pick_at job) picks 0 (length picks) refl (pick_is made));
     }
 
--- `write_job` writes n bytes at the start of out, n not 0; `read_job` of these bytes gives the steps of the points, and the picks.
+-- `write_job` writes n bytes at the start of out; `read_job` of these bytes gives the steps of the points, and the picks.
 pub there_and_back : (x y : List ℤ) (picks out : List ℕ) {n : ℕ} {out' : List ℕ} → Fit x → Fit y → Small picks
-    → Made x y picks out n out' → (n ≡ 0 → ⊥)
+    → Made x y picks out (Some n) out'
     → (X Y : List ℤ) (Q : List ℕ) → length x ≤ length X → length x ≤ length Y → length picks ≤ length Q
-    → {r : Outcome} {X' Y' : List ℤ} {Q' : List ℕ} → Reading (take n out') X Y Q r X' Y' Q' → Back x y picks X Y Q r X' Y' Q'
-there_and_back x y picks out {n} {out'} fx fy fp m h X Y Q hx hy hq {r} {X'} {Y'} {Q'} g =
-    let f = fitting (length x) (length y) (length picks) (length out) (λ e. h (m.answer ∙ e)) in
-    let made : Encodable x y picks = record { fit_x = fx; fit_y = fy; fit_picks = fp; same = f.same; few = f.few; short = f.short } in
-    encoded_back made X Y Q hx hy hq (subst (λ (j : List ℕ). Reading j X Y Q r X' Y' Q') (made_job m h) g)
+    → {r : Result Counts Refusal} {X' Y' : List ℤ} {Q' : List ℕ} → Reading (take n out') X Y Q r X' Y' Q' → Back x y picks X Y Q r X' Y' Q'
+there_and_back x y picks out {n} {out'} fx fy fp m X Y Q hx hy hq {r} {X'} {Y'} {Q'} g =
+    let f = fitting (length x) (length y) (length picks) (length out) n (sym m.answer) in
+    let short : 20 + 8 * length x + 4 * length picks ≤ 16384 = rw f.is at f.short in
+    let made : Encodable x y picks = record { fit_x = fx; fit_y = fy; fit_picks = fp; same = f.same; few = f.few; short = short } in
+    encoded_back made X Y Q hx hy hq (subst (λ (j : List ℕ). Reading j X Y Q r X' Y' Q') (made_job m) g)

@@ -5,7 +5,7 @@ use Prim.Native.Nat.{ℕ, zero, suc, ◌+◌, ◌≤◌, ◌<◌}
 use native.Mathlib.Numerals.{add-one}
 use native.Mathlib.Omega.{arith}
 use lib.ListN.{length, get_or, take, drop, set, length-append, length-drop, length-map, get_or-append}
-use lib.Seq.{drop-cons, set_at, sets, sets-eq, length-sets, length-take-le, take-suc, ext_get_or}
+use lib.Seq.{drop-cons, drop-drop, set_at, sets, sets-eq, length-sets, ext_get_or}
 use Rattle.algebra.specs.Ranges.{up_from, up_from_length, table_at}
 use Rattle.job.specs.Buffers.{over, put, Put}
 
@@ -21,7 +21,7 @@ module _ {A : Type 0} where
   last_of f s zero = ap (λ k. f k ∷ []) (omega arith)
   last_of f s (suc n) = ap (λ l. f s ∷ l) (last_of f (suc s) n ∙ ap (λ k. map f (up_from (suc s) n) ++ (f k ∷ [])) (omega arith))
 
-  table_next : (f : ℕ → A) (n : ℕ) → table f (suc n) ≡ table f n ++ (f n ∷ [])
+  pub table_next : (f : ℕ → A) (n : ℕ) → table f (suc n) ≡ table f n ++ (f n ∷ [])
   table_next f n = last_of f 0 n ∙ ap (λ k. table f n ++ (f k ∷ [])) (omega arith)
 
   pub table_is : (f : ℕ → A) (l : List A) (d : A) (n : ℕ) → length l ≡ n → ((i : ℕ) → i < n → f i ≡ get_or l i d) → table f n ≡ l
@@ -47,9 +47,6 @@ module _ {A : Type 0} where
   pub over_step : (l : List A) (f : ℕ → A) {m : List A} {n : ℕ} {v : A} → m ≡ over l f n → n < length l → v ≡ f n → set m n v ≡ over l f (n + 1)
   over_step l f {m} {n} {v} e h g = rw (e, g) (over_next l f n h)
 
-  pub over_all : (l : List A) (f : ℕ → A) {m : List A} {i n : ℕ} → m ≡ over l f i → i ≡ n → m ≡ over l f n
-  over_all l f e g = rw (← g) e
-
   pub over_at : (l : List A) (f : ℕ → A) (n i : ℕ) (d : A) → i < n → get_or (over l f n) i d ≡ f i
   unfolding over
   over_at l f n i d h =
@@ -68,10 +65,6 @@ length_put l i t = length-sets l i t
 pub put_none : (l : List ℕ) (i : ℕ) → put l i [] ≡ l
 unfolding put
 put_none l i = refl
-
-put_one : (l : List ℕ) (i v : ℕ) → put l i (v ∷ []) ≡ set l i v
-unfolding put
-put_one l i v = refl
 
 sets_append : (l : List ℕ) (i : ℕ) (a b : List ℕ) → sets l i (a ++ b) ≡ sets (sets l i a) (i + length a) b
 sets_append l i [] b = ap (λ k. sets l k b) (omega arith)
@@ -92,23 +85,6 @@ put_then {l} {m} {n} {i} {j} {k} {a} {b} p q =
 pub put_empty : (l : List ℕ) (i : ℕ) → Put l i [] i l
 put_empty l i = record { next = omega arith; text = sym (put_none l i) }
 
-pub put_byte : (l : List ℕ) (i v : ℕ) → Put l i (v ∷ []) (i + 1) (set l i v)
-put_byte l i v = record { next = refl; text = sym (put_one l i v) }
-
--- a turn of the loop that copies a text
-pub put_next : (l t : List ℕ) (i k : ℕ) {m : List ℕ} → m ≡ put l i (take k t) → k < length t → set m (i + k) (get_or t k 0) ≡ put l i (take (k + 1) t)
-put_next l t i k {m} e h =
-    let n : length (take k t) ≡ k = length-take-le k t (omega arith) in
-    rw (e, add-one, take-suc t k 0 h)
-    (sym (put_append l i (take k t) (get_or t k 0 ∷ []) ∙ ap (λ j. put (put l i (take k t)) (i + j) (get_or t k 0 ∷ [])) n ∙ put_one _ _ _))
-
-pub put_length : {l l' t : List ℕ} {i r : ℕ} → Put l i t r l' → length l' ≡ length l
-put_length {l} {l'} {t} {i} p = ap length p.text ∙ length_put l i t
-
--- room for j bytes more behind a text of at most k
-pub put_room : {l l' t : List ℕ} {i r : ℕ} (k j : ℕ) → Put l i t r l' → length t ≤ k → i + (k + j) ≤ length l → r + j ≤ length l'
-put_room k j p b h = omega (arith, p.next, put_length p)
-
--- a text that fits ends within the buffer
-pub put_within : {l l' t : List ℕ} {i r : ℕ} → Put l i t r l' → i + length t ≤ length l → r ≤ length l'
-put_within p h = omega (arith, p.next, put_length p)
+-- a text that is copied over the part from i on
+pub put_part : (l t : List ℕ) (i k : ℕ) → k ≡ length t → i + length t ≤ length l → take i l ++ (t ++ drop k (drop i l)) ≡ put l i t
+put_part l t i k e h = rw (e, drop-drop, put_is l i t h) (sym (append_assoc (take i l) t _) ∙ ap (λ j. take i l ++ t ++ drop j l) (omega arith))

@@ -1,13 +1,15 @@
 -- The job file, and what the reader makes of it.
-use Rattle.std.specs.Prelude.{◌≡◌, Bool, not, ◌&&◌, ◌||◌, cond, List, ℕ, ◌+◌, ◌*◌, ◌≤◌, ◌<◌, length, ltb, eqb, ℤ}
+use Rattle.std.specs.Prelude.{◌≡◌, Bool, not, ◌&&◌, ◌||◌, cond, List, ℕ, ◌+◌, ◌*◌, ◌≤◌, ◌<◌, length, ltb, eqb, ℤ, Result, Ok, Err}
 use Rattle.algebra.specs.Ranges.{all_below}
 use Rattle.geometry.specs.Plane.{near}
 use Rattle.geometry.specs.Answers.{Answer, refused, answered}
 use Rattle.job.specs.Words.{word, signed}
 use Rattle.job.specs.Steps.{steps}
 use Rattle.job.specs.Buffers.{over}
-use Rattle.job.specs.declared.reader.Outcome.{Outcome}
-use Rattle.job.specs.declared.reader.Outcome.TheVariants.{Read, Refused}
+use Rattle.job.specs.declared.reader.Counts.{Counts}
+use Rattle.job.specs.declared.reader.Header.{Header}
+use Rattle.refusal.specs.declared.Refusal.{Refusal}
+use Rattle.refusal.specs.Number.{number_of}
 
 -- ---- the five words at the start
 abbrev pub point_count : List ℕ → ℕ
@@ -24,6 +26,9 @@ pick_start job = word job 12
 
 abbrev pub total : List ℕ → ℕ
 total job = word job 16
+
+abbrev pub header_of : List ℕ → Header
+header_of job = record { points = point_count job; point_start = point_start job; picks = pick_count job; pick_start = pick_start job; total = total job }
 
 -- ---- the entries
 -- a point is x then y, in micrometres
@@ -83,15 +88,10 @@ refusal job nx ny np =
     decide (length job) (point_count job) (point_start job) (pick_count job) (pick_start job) (total job) (in_range job) nx ny np
 
 -- ---- answer and buffers
--- the counts of points and picks
-pub record Counts : Type 0 where
-  pub points : ℕ
-  pub picks : ℕ
-
 -- The code's answer in these words: a refusal's number, or the counts.
-abbrev pub outcome_of : Outcome → Answer Counts
-outcome_of (Read n m) = answered (record { points = n; picks = m })
-outcome_of (Refused k) = refused k
+abbrev pub outcome_of : Result Counts Refusal → Answer Counts
+outcome_of (Ok counts) = answered counts
+outcome_of (Err refusal) = refused (number_of refusal)
 
 unfoldable pub accepted : (job : List ℕ) (nx ny np : ℕ) → Bool
 accepted job nx ny np = eqb (refusal job nx ny np) 0
@@ -101,7 +101,7 @@ answer job nx ny np =
     cond (accepted job nx ny np) (answered (record { points = point_count job; picks = pick_count job })) (refused (refusal job nx ny np))
 
 -- What the reader answers and leaves: steps and picks of an accepted job at the buffers' start, and nothing past them; else all as it was.
-pub record Reading (job : List ℕ) (x y : List ℤ) (picks : List ℕ) (r : Outcome) (x' y' : List ℤ) (picks' : List ℕ) : Type 0 where
+pub record Reading (job : List ℕ) (x y : List ℤ) (picks : List ℕ) (r : Result Counts Refusal) (x' y' : List ℤ) (picks' : List ℕ) : Type 0 where
   pub answers : outcome_of r ≡ answer job (length x) (length y) (length picks)
   pub xs : x' ≡ cond (accepted job (length x) (length y) (length picks)) (over x (x_at job) (point_count job)) x
   pub ys : y' ≡ cond (accepted job (length x) (length y) (length picks)) (over y (y_at job) (point_count job)) y

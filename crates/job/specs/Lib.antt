@@ -2,6 +2,7 @@
 pub mod Words
 pub mod Steps
 pub mod Buffers
+pub mod Writing
 pub mod Job
 pub mod Encoded
 pub mod Mirrored
@@ -9,4 +10,5 @@ pub mod Mirrored
 pub mod Ascii
 pub mod Decimal
 pub mod Feed
+pub mod Loops
 pub mod Text

@@ -1,12 +1,14 @@
 -- What `tourjob` prints.
-use Rattle.std.specs.Prelude.{List, [], ◌++◌, ℕ, zero, suc, length}
+use Rattle.std.specs.Prelude.{List, [], ◌++◌, ℕ, zero, suc, length, Result, Ok, Err}
 use Rattle.geometry.specs.Plane.{Point}
 use Rattle.polygon.specs.Ring.{at}
 use Rattle.job.specs.Ascii.{ascii}
 use Rattle.job.specs.Decimal.{decimal, integer}
 use Rattle.job.specs.Feed.{feed_of}
-use Rattle.job.specs.declared.report.Report.{Report}
-use Rattle.job.specs.declared.report.Report.TheVariants.{Delivered, Stopped, Refused}
+use Rattle.job.specs.declared.report.Summary.{Summary}
+use Rattle.refusal.specs.declared.Refusal.{Refusal}
+use Rattle.refusal.specs.declared.Refusal.TheVariants.{PicksUsedUp}
+use Rattle.refusal.specs.Number.{number_of}
 
 -- the line `ok N moves M cross C feed F`
 unfoldable pub summary : (n m c f : ℕ) → List ℕ
@@ -33,8 +35,12 @@ stopped_line left = ascii "refused 8 left " ++ (decimal left ++ ascii "\n")
 unfoldable pub loop_lines : (ℕ → Point) → List ℕ → (moves cross : ℕ) → List ℕ
 loop_lines pt ring moves cross = summary (length ring) moves cross (feed_of pt ring) ++ point_lines pt ring (length ring)
 
+-- the line of a refusal: 8 tells the records left
+unfoldable pub refusal_line : Refusal → List ℕ
+refusal_line (PicksUsedUp moves left) = stopped_line left
+refusal_line r = refused_line (number_of r)
+
 -- the whole text of an answer, with the points by number and the loop
-unfoldable pub report_text : (ℕ → Point) → List ℕ → Report → List ℕ
-report_text pt ring (Delivered moves cross) = loop_lines pt ring moves cross
-report_text pt ring (Stopped left) = stopped_line left
-report_text pt ring (Refused k) = refused_line k
+unfoldable pub report_text : (ℕ → Point) → List ℕ → Result Summary Refusal → List ℕ
+report_text pt ring (Ok s) = loop_lines pt ring s.moves s.cross
+report_text pt ring (Err r) = refusal_line r

@@ -1,33 +1,72 @@
 // The feed of a loop, metered along its edges.
-ghost use Rattle.std.specs.Prelude.{◌≡◌, ◌<◌, length};
-ghost use Rattle.geometry.specs.Lent.{points};
-ghost use Rattle.job.specs.Feed.{edge_feed, feed_of, Drawn};
+ghost use Rattle.job.specs.Feed.{Drawn};
 
 use geometry::distance::squared_euclidean_distance;
-use geometry::point::point_at;
+use geometry::point::Point;
 use integer_root::integer_root;
 use polygon::position::next_place;
 
-// The edge from ring position i to the next.
-fn edge_at(x: &[i32], y: &[i32], ring: &[u16], i: usize) -> u64
-    requires { Drawn x.now y.now ring.now × (i < length ring.now) }
-    ensures { (result ≡ edge_feed (points x.now y.now) ring.now i) × (result < 2828427125) }
-{
-    let a = point_at(x, y, ring[i] as usize);
-    let b = point_at(x, y, ring[next_place(ring.len(), i)] as usize);
-    integer_root(squared_euclidean_distance(a, b))
+// A loop that can be told: position i is on point number ring[i], which is lent at x and y and within the limits.
+#[derive(Clone, Copy)]
+pub struct Loop<'a> {
+    pub x: &'a [i32],
+    pub y: &'a [i32],
+    pub ring: &'a [u16],
+    pub ghost drawn: { Drawn x.now y.now ring.now },
 }
 
-// The sum over the edges: of 256 it is below 2⁴⁰.
-pub fn feed(x: &[i32], y: &[i32], ring: &[u16]) -> u64
-    requires { Drawn x.now y.now ring.now }
-    ensures { result ≡ feed_of (points x.now y.now) ring.now }
-{
-    let mut sum = 0u64;
-    let mut i = 0usize;
-    while i < ring.len() {
-        sum += edge_at(x, y, ring, i);
-        i += 1;
+impl<'a> Loop<'a> {
+    ghost use Rattle.std.specs.Prelude.{◌≡◌, ◌<◌, [], length};
+    ghost use Rattle.geometry.specs.Lent.{spot, InRange};
+    ghost use Rattle.polygon.specs.Ring.{at};
+    ghost use Rattle.job.specs.Feed.{edge_feed, feed_of};
+    ghost use Rattle.job.specs.Loops.{spots};
+
+    // The loop with no position.
+    pub fn empty() -> Loop<'static>
+        ensures { result.ring.now ≡ [] }
+    {
+        Loop {
+            x: &[],
+            y: &[],
+            ring: &[],
+        }
     }
-    sum
+
+    // The point at position i.
+    pub fn at(self, i: usize) -> Point
+        requires { i < length self.ring.now }
+        ensures place { spot result ≡ spots self.entry (at self.entry.ring.now i) }
+        ensures near { InRange (spot result) }
+    {
+        let k = self.ring[i] as usize;
+        Point {
+            x: self.x[k],
+            y: self.y[k],
+        }
+    }
+
+    // The edge from position i to the next.
+    #[tactic(auto, using(crate::proofs::Feeds::feed_by, crate::proofs::Feeds::feed_small), unfolding(crate::specs::Feed::edge_feed))]
+    fn edge(self, i: usize) -> u64
+        requires { i < length self.ring.now }
+        ensures value { result ≡ edge_feed (spots self.entry) self.entry.ring.now i }
+        ensures bound { result < 2828427125 }
+    {
+        let a = self.at(i);
+        let b = self.at(next_place(self.ring.len(), i));
+        integer_root(squared_euclidean_distance(a, b))
+    }
+
+    // The sum over the edges: of 256 it is below 2⁴⁰.
+    #[tactic(auto, using(crate::proofs::Feeds::feed_step, crate::proofs::Feeds::feed_none))]
+    pub fn feed(self) -> u64
+        ensures { result ≡ feed_of (spots self.entry) self.entry.ring.now }
+    {
+        let mut sum = 0;
+        for i in 0..self.ring.len() {
+            sum += self.edge(i);
+        }
+        sum
+    }
 }

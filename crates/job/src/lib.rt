@@ -5,5 +5,5 @@ pub mod encoder;
 pub mod feed;
 pub mod reader;
 pub mod report;
-pub mod text;
 pub mod word;
+pub mod writer;

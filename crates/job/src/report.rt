@@ -1,90 +1,110 @@
 // The text of an answer.
-ghost use Rattle.std.specs.Prelude.{◌+◌, ◌*◌, ◌≤◌, length};
-ghost use Rattle.geometry.specs.Lent.{points};
+ghost use Rattle.std.specs.Prelude.{◌++◌, ◌+◌, ◌*◌, ◌≤◌, length};
+ghost use Rattle.geometry.specs.Lent.{spot};
+ghost use Rattle.job.specs.Ascii.{ascii};
 ghost use Rattle.job.specs.Buffers.{Put};
-ghost use Rattle.job.specs.Feed.{Drawn};
-ghost use Rattle.job.specs.Text.{summary, point_line, point_lines, refused_line, stopped_line, report_text};
+ghost use Rattle.job.specs.Decimal.{decimal};
+ghost use Rattle.job.specs.Loops.{spots};
+ghost use Rattle.job.specs.Text.{summary, point_line, point_lines, refusal_line, report_text};
+ghost use Rattle.job.specs.Writing.{Wrote, HasRoom};
 
-use super::feed::feed;
-use super::text::{put_field, put_integer, put_text};
+use super::feed::Loop;
+use super::writer::Writer;
+use geometry::point::Point;
+use refusal::Refusal;
 
-// What is told of a job: its loop is delivered, its picks are used up with records left, or it is refused.
-#[derive(Clone, Copy)]
-pub enum Report {
-    Delivered { moves: usize, cross: usize },
-    Stopped { left: usize },
-    Refused(u8),
+// What is told of a delivered loop: the moves made, and the records at the start.
+#[derive(Clone, Copy, Debug, PartialEq, Eq)]
+pub struct Summary {
+    pub moves: usize,
+    pub cross: usize,
 }
 
 // The line `ok N moves M cross C feed F`.
-fn put_summary(n: u64, moves: u64, cross: u64, feed: u64, out: &mut [u8], at: usize) -> usize
-    requires { at + 104 ≤ length out.old }
-    ensures { Put out.old at (summary n moves cross feed) result out.new }
+#[tactic(auto, using(crate::proofs::Decimals::length_decimal))]
+fn put_summary(w: &mut Writer, n: u64, moves: u64, cross: u64, feed: u64)
+    requires { HasRoom w.old 104 }
+    ensures { Wrote w.old w.new (summary n moves cross feed) }
 {
-    let p = put_field(b"ok ", n, out, at);
-    let q = put_field(b" moves ", moves, out, p);
-    let r = put_field(b" cross ", cross, out, q);
-    let s = put_field(b" feed ", feed, out, r);
-    put_text(b"\n", out, s)
+    w.field(b"ok ", n);
+    w.field(b" moves ", moves);
+    w.field(b" cross ", cross);
+    w.field(b" feed ", feed);
+    w.text(b"\n");
 }
 
-// The line `refused K`.
-fn put_refused(k: u64, out: &mut [u8], at: usize) -> usize
-    requires { at + 29 ≤ length out.old }
-    ensures { Put out.old at (refused_line k) result out.new }
+// A line of a text and a number.
+#[tactic(auto, using(crate::proofs::Decimals::length_decimal))]
+fn put_line(w: &mut Writer, text: &[u8], v: u64)
+    requires { HasRoom w.old (length text.now + 21) }
+    ensures { Wrote w.old w.new (text.now ++ (decimal v ++ ascii "\n")) }
 {
-    let p = put_field(b"refused ", k, out, at);
-    put_text(b"\n", out, p)
+    w.text(text);
+    w.natural(v);
+    w.text(b"\n");
 }
 
-// The line `refused 8 left L`.
-fn put_stopped(left: u64, out: &mut [u8], at: usize) -> usize
-    requires { at + 36 ≤ length out.old }
-    ensures { Put out.old at (stopped_line left) result out.new }
+// The line `refused K`, or `refused 8 left L`.
+fn put_refusal(w: &mut Writer, refusal: Refusal)
+    requires { HasRoom w.old 36 }
+    ensures { Wrote w.old w.new (refusal_line refusal) }
 {
-    let p = put_field(b"refused 8 left ", left, out, at);
-    put_text(b"\n", out, p)
+    match refusal {
+        Refusal::PicksUsedUp { left, .. } => put_line(w, b"refused 8 left ", left as u64),
+        _ => put_line(w, b"refused ", refusal.number() as u64),
+    }
 }
 
 // A point's line.
-fn put_point(x: i32, y: i32, out: &mut [u8], at: usize) -> usize
-    requires { at + 44 ≤ length out.old }
-    ensures { Put out.old at (point_line (record { x = x; y = y })) result out.new }
+#[tactic(auto, using(crate::proofs::Decimals::length_integer))]
+fn put_point(w: &mut Writer, p: Point)
+    requires { HasRoom w.old 44 }
+    ensures { Wrote w.old w.new (point_line (spot p)) }
 {
-    let p = put_integer(x, out, at);
-    let q = put_text(b" ", out, p);
-    let r = put_integer(y, out, q);
-    put_text(b"\n", out, r)
+    w.integer(p.x);
+    w.text(b" ");
+    w.integer(p.y);
+    w.text(b"\n");
 }
 
-// The lines of the points by ring position.
-fn put_points(x: &[i32], y: &[i32], ring: &[u16], out: &mut [u8], at: usize) -> usize
-    requires { Drawn x.now y.now ring.now × (at + 44 * length ring.now ≤ length out.old) }
-    ensures { Put out.old at (point_lines (points x.now y.now) ring.now (length ring.now)) result out.new }
+// The lines of the points by position.
+fn put_points(w: &mut Writer, told: Loop)
+    requires { HasRoom w.old (44 * length told.ring.now) }
+    ensures { Wrote w.old w.new (point_lines (spots told.entry) told.entry.ring.now (length told.entry.ring.now)) }
 {
-    let mut p = at;
-    let mut i = 0usize;
-    while i < ring.len() {
-        let k = ring[i] as usize;
-        p = put_point(x[k], y[k], out, p);
-        i += 1;
+    for i in 0..told.ring.len() {
+        put_point(w, told.at(i));
     }
-    p
 }
 
-// Writes an answer's text to the start of `out`, and answers its length. `ring` is the loop that is delivered, or empty.
-pub fn put_report(report: Report, x: &[i32], y: &[i32], ring: &[u16], out: &mut [u8]) -> usize
-    requires { Drawn x.now y.now ring.now × (104 + 44 * length ring.now ≤ length out.old) }
-    ensures put { Put out.old 0 (report_text (points x.now y.now) ring.now report) result out.new }
-    ensures within { result ≤ length out.new }
+// The text of an answer.
+fn put_text(w: &mut Writer, report: Result<Summary, Refusal>, told: Loop)
+    requires { HasRoom w.old (104 + 44 * length told.ring.now) }
+    ensures { Wrote w.old w.new (report_text (spots told.entry) told.entry.ring.now report) }
 {
     match report {
-        Report::Delivered { moves, cross } => {
-            let sum = feed(x, y, ring);
-            let p = put_summary(ring.len() as u64, moves as u64, cross as u64, sum, out, 0);
-            put_points(x, y, ring, out, p)
+        Ok(Summary { moves, cross }) => {
+            put_summary(
+                w,
+                told.ring.len() as u64,
+                moves as u64,
+                cross as u64,
+                told.feed(),
+            );
+            put_points(w, told);
         }
-        Report::Stopped { left } => put_stopped(left as u64, out, 0),
-        Report::Refused(k) => put_refused(k as u64, out, 0),
+        Err(refusal) => put_refusal(w, refusal),
     }
+}
+
+// Writes an answer's text to the start of `out`, and answers its length. `told` is the loop that is delivered, or empty.
+#[tactic(auto, using(crate::proofs::Lines::length_report))]
+pub fn put_report(report: Result<Summary, Refusal>, told: Loop, out: &mut [u8]) -> usize
+    requires { 104 + 44 * length told.ring.now ≤ length out.old }
+    ensures put { Put out.old 0 (report_text (spots told.entry) told.entry.ring.now report) result out.new }
+    ensures within { result ≤ length out.new }
+{
+    let mut w = Writer::new(out);
+    put_text(&mut w, report, told);
+    w.at()
 }

@@ -1,24 +1,17 @@
 -- Numbers are read digit by digit, and told up to a cap that no test of their range sees.
-use mathlib.Core.Path.{◌≡◌, refl, sym, ap, ◌∙◌}
+use mathlib.Core.Path.{◌≡◌, refl, ap, ◌∙◌}
 use mathlib.Core.Bool.{true, false, ◌&&◌, cond}
 use mathlib.Core.List.{List, [], ◌∷◌}
-use Prim.Native.Nat.{ℕ, ◌+◌, ◌-◌, ◌*◌, ◌^◌, ◌≤◌, ◌<◌, min}
-use native.Mathlib.Numerals.{add-one}
+use Prim.Native.Nat.{ℕ, ◌+◌, ◌-◌, ◌*◌, ◌≤◌, min}
 use native.Mathlib.Omega.{arith}
-use lib.ListN.{length, get_or, drop}
-use lib.Seq.{drop-cons}
-use borrow.Author.Tests.{le-ltb, lt-leb}
-use Rattle.algebra.specs.Cases.{both, le_cases, never}
+use lib.ListN.{length}
+use Rattle.std.specs.List.{fold, list_all}
+use Rattle.std.specs.Char.{is_ascii_digit}
+use Rattle.algebra.specs.Cases.{both, le_cases}
 use Rattle.job.specs.Decimal.{is_digit, all_digits, value_from, value}
-use Rattle.makejob.specs.Numbers.{Parsed, malformed, out_of_range, number, natural, minus_first, below, plus, minus, cap, capped}
+use Rattle.makejob.specs.Numbers.{malformed, number, natural, cap, shifted}
 
--- ---- one more digit
-pub digits_next : (l : List ℕ) (i : ℕ) → i < length l → all_digits (drop i l) ≡ (is_digit (get_or l i 0) && all_digits (drop (i + 1) l))
-digits_next l i h = rw (add-one, drop-cons l i 0 h)
-
-value_next : (v : ℕ) (l : List ℕ) (i : ℕ) → i < length l → value_from v (drop i l) ≡ value_from (10 * v + (get_or l i 0 - 48)) (drop (i + 1) l)
-value_next v l i h = rw (add-one, drop-cons l i 0 h)
-
+-- ---- digit by digit
 value_grows : (v : ℕ) (l : List ℕ) → v ≤ value_from v l
 value_grows v [] = omega arith
 value_grows v (d ∷ l) = omega (arith, value_grows (10 * v + (d - 48)) l)
@@ -30,43 +23,13 @@ value_capped v l =
     (λ h. let e : min v cap ≡ v = omega (arith, h.0) in ap (λ u. min (value_from u l) cap) e)
     (λ h. let e : min v cap ≡ cap = omega (arith, h.0) in rw e (omega (arith, h.0, value_grows cap l, value_grows v l)))
 
-pub value_step : (v : ℕ) (l : List ℕ) (i : ℕ) {u : ℕ} → i < length l → u ≡ min (10 * v + (get_or l i 0 - 48)) cap
-    → min (value_from u (drop (i + 1) l)) cap ≡ min (value_from v (drop i l)) cap
-value_step v l i h e = rw (e, value_next v l i h) (value_capped (10 * v + (get_or l i 0 - 48)) (drop (i + 1) l))
+pub value_folds : (l : List ℕ) (v : ℕ) → v ≤ cap → fold shifted v l ≡ min (value_from v l) cap
+value_folds [] v h = omega arith
+value_folds (d ∷ l) v h = value_folds l (shifted v d) (omega arith) ∙ value_capped (10 * v + (d - 48)) l
 
--- ---- the ranges do not see the cap
-pub below_capped : (p : Parsed ℕ) → below (2 ^ 32) (capped p) ≡ below (2 ^ 32) p
-below_capped malformed = refl
-below_capped out_of_range = refl
-below_capped (number n) =
-    both (le_cases n cap)
-    (λ h. ap (λ u. below (2 ^ 32) (number u)) (let e : min n cap ≡ n = omega (arith, h.0) in e))
-    (λ h.
-    let e : min n cap ≡ cap = omega (arith, h.0) in
-    let far : 2 ^ 32 ≤ n = omega (arith, h.0) in
-    rw (e, le-ltb n (2 ^ 32) far))
-
-pub plus_capped : (p : Parsed ℕ) → plus (capped p) ≡ plus p
-plus_capped malformed = refl
-plus_capped out_of_range = refl
-plus_capped (number n) =
-    both (le_cases n cap)
-    (λ h. ap (λ u. plus (number u)) (let e : min n cap ≡ n = omega (arith, h.0) in e))
-    (λ h.
-    let e : min n cap ≡ cap = omega (arith, h.0) in
-    let far : 2 ^ 31 ≤ n = omega (arith, h.0) in
-    rw (e, le-ltb n (2 ^ 31) far))
-
-pub minus_capped : (p : Parsed ℕ) → minus (capped p) ≡ minus p
-minus_capped malformed = refl
-minus_capped out_of_range = refl
-minus_capped (number n) =
-    both (le_cases n cap)
-    (λ h. ap (λ u. minus (number u)) (let e : min n cap ≡ n = omega (arith, h.0) in e))
-    (λ h.
-    let e : min n cap ≡ cap = omega (arith, h.0) in
-    let far : 2 ^ 31 < n = omega (arith, h.0) in
-    rw (e, lt-leb n (2 ^ 31) far))
+pub digits_all : (l : List ℕ) → list_all is_ascii_digit l ≡ all_digits l
+digits_all [] = refl
+digits_all (d ∷ l) = ap (λ b. is_digit d && b) (digits_all l)
 
 -- ---- a field, by what the code tests
 pub natural_none : (l : List ℕ) → length l ≡ 0 → natural l ≡ malformed
@@ -83,6 +46,5 @@ natural_other l h e = natural_is l h ∙ ap (λ b. cond b (number (value l)) mal
 pub natural_digits : (l : List ℕ) → ¬ (length l ≡ 0) → all_digits l ≡ true → natural l ≡ number (value l)
 natural_digits l h e = natural_is l h ∙ ap (λ b. cond b (number (value l)) malformed) e
 
-pub minus_some : (l : List ℕ) → minus_first l ≡ true → 0 < length l
-minus_some [] h = never true refl (sym h)
-minus_some (a ∷ l) h = omega arith
+-- what `read_natural` needs
+pub ruleset fields = (digits_all, natural_none, natural_other, natural_digits, value_folds)

@@ -4,3 +4,5 @@ pub mod Numbers
 pub mod Drawn
 -- What is kept of the lines
 pub mod Kept
+-- What becomes of a line that has no such number
+pub mod Faults

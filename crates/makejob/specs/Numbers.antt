@@ -1,12 +1,8 @@
 -- What a field of a line means as a number.
-use Rattle.std.specs.Prelude.{Bool, false, cond, List, [], ◌∷◌, ℕ, ◌^◌, min, drop, eqb, leb, ltb, ℤ, pos, neg_ℤ}
+use Rattle.std.specs.Prelude.{Bool, false, cond, List, [], ◌∷◌, ℕ, ◌+◌, ◌-◌, ◌*◌, ◌^◌, min, drop, eqb, leb, ltb, ℤ, pos, neg_ℤ, Option, Some, None, Result, Ok, Err}
 use Rattle.job.specs.Decimal.{all_digits, value}
-use Rattle.makejob.specs.declared.number.Natural.{Natural}
-use Rattle.makejob.specs.declared.number.Natural.TheVariants as natural-code
-use Rattle.makejob.specs.declared.number.Word.{Word}
-use Rattle.makejob.specs.declared.number.Word.TheVariants as word-code
-use Rattle.makejob.specs.declared.number.Coordinate.{Coordinate}
-use Rattle.makejob.specs.declared.number.Coordinate.TheVariants as coordinate-code
+use Rattle.makejob.specs.declared.number.NumberError.{NumberError}
+use Rattle.makejob.specs.declared.number.NumberError.TheVariants as error
 
 -- no number, one that 32 bits do not hold, or a number
 pub data Parsed (A : Type 0) : Type 0 where
@@ -56,16 +52,15 @@ capped malformed = malformed
 capped out_of_range = out_of_range
 capped (number n) = number (min n cap)
 
-abbrev pub natural_of : Natural → Parsed ℕ
-natural_of (natural-code.Is v) = number v
-natural_of natural-code.Malformed = malformed
+-- one digit more, up to the cap
+abbrev pub shifted : ℕ → ℕ → ℕ
+shifted v d = min (10 * v + (d - 48)) cap
 
-abbrev pub word_of : Word → Parsed ℕ
-word_of (word-code.Is v) = number v
-word_of word-code.OutOfRange = out_of_range
-word_of word-code.Malformed = malformed
+abbrev pub natural_of : Option ℕ → Parsed ℕ
+natural_of (Some v) = number v
+natural_of None = malformed
 
-abbrev pub coordinate_of : Coordinate → Parsed ℤ
-coordinate_of (coordinate-code.Is v) = number v
-coordinate_of coordinate-code.OutOfRange = out_of_range
-coordinate_of coordinate-code.Malformed = malformed
+abbrev pub parsed_of : {A : Type 0} → Result A NumberError → Parsed A
+parsed_of (Ok v) = number v
+parsed_of (Err error.OutOfRange) = out_of_range
+parsed_of (Err error.Malformed) = malformed

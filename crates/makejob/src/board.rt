@@ -1,165 +1,109 @@
 // The board that the lines tell: points in micrometres, and picks.
-ghost use Rattle.std.specs.Prelude.{◌≡◌, ◌+◌, ◌*◌, ◌≤◌, ◌<◌, length};
-ghost use Rattle.job.specs.Buffers.{over};
-ghost use Rattle.makejob.specs.Drawn.{next_state, rotated, drawn};
-ghost use Rattle.makejob.specs.Kept.{Fits, StepFits, LinesFit};
+ghost use Rattle.arrayvec.specs.ArrayVec.{array_vec_len};
+ghost use Rattle.makejob.specs.Kept.{Fits};
 
-use super::line::{Line, find, read_line};
+use super::fault::{Fault, LineFault};
+use super::generator::draw;
+use super::line::{Line, read_line};
+use arrayvec::ArrayVec;
 
-// How many points and picks are kept so far, and whether a line `picks` gave them.
-#[derive(Clone, Copy)]
+// The points and the picks so far: they make a job. The coordinates are apart, as the encoder takes them.
+#[derive(Drop)]
 pub struct Board {
-    pub points: usize,
-    pub picks: usize,
-    pub drawn: bool,
+    pub x: ArrayVec<i32, 48>,
+    pub y: ArrayVec<i32, 48>,
+    pub picks: ArrayVec<u32, 4096>,
+    // Whether a line `picks` gave the picks.
+    drawn: bool,
+    pub ghost fits: { Fits (array_vec_len x) (array_vec_len y) (array_vec_len picks) },
 }
 
-#[derive(Clone, Copy)]
-pub enum Fault {
-    Malformed,
-    OutOfRange,
-    ManyPoints,
-    LongJob,
-    PicksTwice,
-}
+impl Board {
+    ghost use Rattle.std.specs.Prelude.{◌≡◌, ◌+◌, ◌*◌, [], ◌∷◌, ◌++◌, map, OnOk};
+    ghost use Rattle.algebra.specs.Ranges.{up_from};
+    ghost use Rattle.makejob.specs.Drawn.{drawn};
 
-#[derive(Clone, Copy)]
-pub enum Step {
-    Next(Board),
-    Failed(Fault),
-}
-
-// All lines were taken, or the one with this number was not.
-#[derive(Clone, Copy)]
-pub enum Lines {
-    All(Board),
-    Fault(usize, Fault),
-}
-
-// One step of the generator by which `picks SEED COUNT` draws.
-fn next_state(s: u32) -> u32
-    ensures { result ≡ next_state s }
-{
-    ((s as u64 * 1664525 + 1013904223) % 4294967296) as u32
-}
-
-fn rotate(s: u32) -> u32
-    ensures { result ≡ rotated s }
-{
-    s / 65536 + s % 65536 * 65536
-}
-
-fn draw(seed: u32, count: usize, picks: &mut [u32])
-    requires { count ≤ length picks.old }
-    ensures { picks.new ≡ over picks.old (drawn seed) count }
-{
-    let mut s = seed;
-    let mut i = 0usize;
-    while i < count {
-        s = next_state(s);
-        picks[i] = rotate(s);
-        i += 1;
-    }
-}
-
-fn add_point(b: Board, px: i32, py: i32, x: &mut [i32], y: &mut [i32]) -> Step
-    requires { Fits b × (48 ≤ length x.old) × (48 ≤ length y.old) }
-    ensures { StepFits result }
-{
-    let n = b.points;
-    let m = b.picks;
-    if 48 <= n {
-        return Step::Failed(Fault::ManyPoints);
-    }
-    if 16384 < 28 + 8 * n + 4 * m {
-        return Step::Failed(Fault::LongJob);
-    }
-    x[n] = px;
-    y[n] = py;
-    Step::Next(Board {
-        points: n + 1,
-        picks: m,
-        drawn: b.drawn,
-    })
-}
-
-fn add_pick(b: Board, pick: u32, picks: &mut [u32]) -> Step
-    requires { Fits b × (4096 ≤ length picks.old) }
-    ensures { StepFits result }
-{
-    let n = b.points;
-    let m = b.picks;
-    if b.drawn {
-        return Step::Failed(Fault::PicksTwice);
-    }
-    if 16384 < 24 + 8 * n + 4 * m {
-        return Step::Failed(Fault::LongJob);
-    }
-    picks[m] = pick;
-    Step::Next(Board {
-        points: n,
-        picks: m + 1,
-        drawn: false,
-    })
-}
-
-fn draw_picks(b: Board, seed: u32, count: u32, picks: &mut [u32]) -> Step
-    requires { Fits b × (4096 ≤ length picks.old) }
-    ensures { StepFits result }
-{
-    let n = b.points;
-    let m = b.picks;
-    let k = count as usize;
-    if b.drawn {
-        return Step::Failed(Fault::PicksTwice);
-    }
-    if m != 0 {
-        return Step::Failed(Fault::PicksTwice);
-    }
-    if 16384 < 20 + 8 * n + 4 * k {
-        return Step::Failed(Fault::LongJob);
-    }
-    draw(seed, k, picks);
-    Step::Next(Board {
-        points: n,
-        picks: k,
-        drawn: true,
-    })
-}
-
-fn take(line: Line, b: Board, x: &mut [i32], y: &mut [i32], picks: &mut [u32]) -> Step
-    requires { Fits b × (48 ≤ length x.old) × (48 ≤ length y.old) × (4096 ≤ length picks.old) }
-    ensures { StepFits result }
-{
-    match line {
-        Line::Blank => Step::Next(b),
-        Line::Point { x: px, y: py } => add_point(b, px, py, x, y),
-        Line::Pick(pick) => add_pick(b, pick, picks),
-        Line::Picks { seed, count } => draw_picks(b, seed, count, picks),
-        Line::OutOfRange => Step::Failed(Fault::OutOfRange),
-        Line::Malformed => Step::Failed(Fault::Malformed),
-    }
-}
-
-pub fn read_board(text: &[u8], x: &mut [i32], y: &mut [i32], picks: &mut [u32]) -> Lines
-    requires { (48 ≤ length x.old) × (48 ≤ length y.old) × (4096 ≤ length picks.old) }
-    ensures { LinesFit result }
-{
-    let mut b = Board {
-        points: 0,
-        picks: 0,
-        drawn: false,
-    };
-    let mut number = 1usize;
-    let mut at = 0usize;
-    while at < text.len() {
-        let end = find(text, at, b'\n');
-        match take(read_line(&text[at..end]), b, x, y, picks) {
-            Step::Failed(fault) => return Lines::Fault(number, fault),
-            Step::Next(next) => b = next,
+    fn new() -> Board
+        ensures { (result.x.items ≡ []) × (result.y.items ≡ []) × (result.picks.items ≡ []) }
+    {
+        Board {
+            x: ArrayVec::new(),
+            y: ArrayVec::new(),
+            picks: ArrayVec::new(),
+            drawn: false,
         }
-        at = end + 1;
-        number += 1;
     }
-    Lines::All(b)
+
+    // The length of the job without its picks.
+    fn length(&self) -> usize
+        ensures { result ≡ 20 + 8 * array_vec_len self.now.x }
+    {
+        20 + 8 * self.x.len()
+    }
+
+    fn add_point(&mut self, x: i32, y: i32) -> Result<(), Fault>
+        ensures points { OnOk result ((self.new.x.items ≡ self.old.x.items ++ x ∷ []) × (self.new.y.items ≡ self.old.y.items ++ y ∷ [])) }
+        ensures picks { self.new.picks ≡ self.old.picks }
+    {
+        if self.x.is_full() {
+            return Err(Fault::ManyPoints);
+        }
+        if 16384 < 8 + self.length() + 4 * self.picks.len() {
+            return Err(Fault::LongJob);
+        }
+        self.x.push(x);
+        self.y.push(y);
+        Ok(())
+    }
+
+    fn add_pick(&mut self, pick: u32) -> Result<(), Fault>
+        ensures picks { OnOk result (self.new.picks.items ≡ self.old.picks.items ++ pick ∷ []) }
+        ensures points { (self.new.x ≡ self.old.x) × (self.new.y ≡ self.old.y) }
+    {
+        if self.drawn {
+            return Err(Fault::PicksTwice);
+        }
+        if 16384 < 4 + self.length() + 4 * self.picks.len() {
+            return Err(Fault::LongJob);
+        }
+        self.picks.push(pick);
+        Ok(())
+    }
+
+    fn draw_picks(&mut self, seed: u32, count: u32) -> Result<(), Fault>
+        ensures picks { OnOk result (self.new.picks.items ≡ map (drawn seed) (up_from 0 count)) }
+        ensures points { (self.new.x ≡ self.old.x) × (self.new.y ≡ self.old.y) }
+    {
+        let count = count as usize;
+        if self.drawn || !self.picks.is_empty() {
+            return Err(Fault::PicksTwice);
+        }
+        if 16384 < self.length() + 4 * count {
+            return Err(Fault::LongJob);
+        }
+        draw(seed, count, &mut self.picks);
+        self.drawn = true;
+        Ok(())
+    }
+
+    fn add_line(&mut self, line: &[u8]) -> Result<(), Fault> {
+        match read_line(line)? {
+            Line::Blank => Ok(()),
+            Line::Point { x, y } => self.add_point(x, y),
+            Line::Pick(pick) => self.add_pick(pick),
+            Line::Picks { seed, count } => self.draw_picks(seed, count),
+        }
+    }
+}
+
+// The board of a text, or the first line that does not fit.
+pub fn read_board(text: &[u8]) -> Result<Board, LineFault> {
+    let mut board = Board::new();
+    for (i, line) in text.split(|b| *b == b'\n').enumerate() {
+        board.add_line(line).map_err(|fault| LineFault {
+            number: i + 1,
+            fault,
+        })?;
+    }
+    Ok(board)
 }
