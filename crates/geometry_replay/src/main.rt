@@ -7,45 +7,36 @@
 // Each case is answered by one letter, 81 to a line: + 0 - for a turn, y or n, and 3 for a refusal.
 #![tactic(auto)]
 
-ghost use Rattle.std.specs.Prelude.{◌<◌, ◌≤◌, length};
-
-use geometry::line_segment::{EndPoint, Verdict, contains, meets};
-use geometry::orientation::{Orientation, Oriented, orient};
+use geometry::line_segment::{EndPoint, LineSegment, meets};
+use geometry::orientation::{Orientation, orient};
 use geometry::point::Point;
+use refusal::Refusal;
+use std::io::{self, BufWriter, Read, Write};
 
-fn wide(b: u8) -> u32
-    ensures { result < 256 }
-{
-    b as u32
+// What a case asks of its points: a kind from 4 on tells by its two lowest bits which ends are open, and so does any number that names no kind.
+enum Kind {
+    Turn,
+    Meet,
+    Contain { a_open: bool, b_open: bool },
 }
 
-// The little-endian word at `at`, or 0 where there is none.
-fn word(s: &[u8], at: usize) -> u32 {
-    if s.len() < 4 {
-        return 0;
+impl From<u32> for Kind {
+    fn from(word: u32) -> Kind {
+        match word {
+            0 => Kind::Turn,
+            1 => Kind::Meet,
+            bits => Kind::Contain {
+                a_open: bits % 2 == 1,
+                b_open: bits / 2 % 2 == 1,
+            },
+        }
     }
-    if s.len() - 4 < at {
-        return 0;
-    }
-    wide(s[at]) + 256 * wide(s[at + 1]) + 65536 * wide(s[at + 2]) + 16777216 * wide(s[at + 3])
 }
 
-// The word in two's complement.
-fn signed(w: u32) -> i32 {
-    if w < 2147483648 {
-        return w as i32;
-    }
-    -1 - (4294967295 - w) as i32
-}
-
-// The point whose two words stand at `at`.
-fn point(s: &[u8], at: usize) -> Point {
-    if s.len() < at {
-        return Point { x: 0, y: 0 };
-    }
+fn point(x: [u8; 4], y: [u8; 4]) -> Point {
     Point {
-        x: signed(word(s, at)),
-        y: signed(word(s, at + 4)),
+        x: i32::from_le_bytes(x),
+        y: i32::from_le_bytes(y),
     }
 }
 
@@ -57,83 +48,53 @@ fn end(open: bool, p: Point) -> EndPoint {
     }
 }
 
-fn turn_letter(o: Oriented) -> u8 {
-    match o {
-        Oriented::Turns(side) => match side {
-            Orientation::CounterClockWise => b'+',
-            Orientation::ClockWise => b'-',
-            Orientation::CoLinear => b'0',
-        },
-        Oriented::OutOfRange => b'3',
+fn turn_letter(turn: Result<Orientation, Refusal>) -> char {
+    match turn {
+        Ok(Orientation::CounterClockWise) => '+',
+        Ok(Orientation::ClockWise) => '-',
+        Ok(Orientation::CoLinear) => '0',
+        Err(_) => '3',
     }
 }
 
-fn verdict_letter(v: Verdict) -> u8 {
-    match v {
-        Verdict::Yes => b'y',
-        Verdict::No => b'n',
-        Verdict::Refused => b'3',
+fn yes_or_no(holds: Result<bool, Refusal>) -> char {
+    match holds {
+        Ok(true) => 'y',
+        Ok(false) => 'n',
+        Err(_) => '3',
     }
 }
 
-// The answer to one case of 36 bytes.
-fn letter(case: &[u8]) -> u8 {
-    let kind = word(case, 0);
-    let a = point(case, 4);
-    let b = point(case, 12);
-    let c = point(case, 20);
-    if kind == 0 {
-        return turn_letter(orient(a, b, c));
-    }
-    if kind == 1 {
-        return verdict_letter(meets(a, b, c, point(case, 28)));
-    }
-    verdict_letter(contains(end(kind % 2 == 1, a), end(kind / 2 % 2 == 1, b), c))
-}
-
-// Answers the cases that stand whole in `cases`, a letter each, as far as `line` has room, and says how many these are.
-fn answer_cases(cases: &[u8], line: &mut [u8]) -> usize
-    ensures { result ≤ length line.new }
-{
-    let whole = cases.len() / 36;
-    let mut n = 0;
-    while n < whole {
-        if n >= line.len() {
-            return n;
+// The answer to one case.
+fn letter(case: [[u8; 4]; 9]) -> char {
+    let [kind, ax, ay, bx, by, cx, cy, dx, dy] = case;
+    let a = point(ax, ay);
+    let b = point(bx, by);
+    let c = point(cx, cy);
+    match Kind::from(u32::from_le_bytes(kind)) {
+        Kind::Turn => turn_letter(orient(a, b, c)),
+        Kind::Meet => yes_or_no(meets(a, b, c, point(dx, dy))),
+        Kind::Contain { a_open, b_open } => {
+            let segment = LineSegment {
+                min: end(a_open, a),
+                max: end(b_open, b),
+            };
+            yes_or_no(segment.contains(c))
         }
-        let at = n * 36;
-        let past = at + 36;
-        line[n] = letter(&cases[at..past]);
-        n += 1;
     }
-    n
 }
 
-// Reads a line's worth of cases and writes their answers. False at the end of the input.
-fn answer_line(cases: &mut [u8], line: &mut [u8]) -> bool {
-    let got = io::read_full(0, cases);
-    let n = answer_cases(&cases[0..got], line);
-    if n == 0 {
-        return false;
-    }
-    io::write_all(1, &line[0..n]);
-    io::write_all(1, b"\n");
-    true
-}
-
-// A proved loop has to end: it counts down from a number that no input uses up.
-fn replay(cases: &mut [u8], line: &mut [u8]) {
-    let mut left = u64::MAX;
-    while left > 0 {
-        if !answer_line(cases, line) {
-            return;
+fn main(rt: HostRuntime) -> io::Result<()> {
+    let mut input = Vec::new(rt.alloc());
+    rt.reader().read_to_end(&mut input)?;
+    let mut out = BufWriter::new(rt.alloc(), io::writer(&rt))?;
+    let (words, _) = input.as_chunks::<4>();
+    let (cases, _) = words.as_chunks::<9>();
+    for line in cases.chunks(81) {
+        for case in line {
+            write!(out, "{}", letter(*case))?;
         }
-        left -= 1;
+        writeln!(out)?;
     }
-}
-
-fn main() {
-    let mut cases = [0u8; 2916];
-    let mut line = [0u8; 81];
-    replay(&mut cases, &mut line);
+    out.flush()
 }

@@ -1,12 +1,14 @@
 -- What hosts are told: each answer in numbers.
-use Rattle.std.specs.Prelude.{Bool, true, false, cond, List, [], ◌∷◌, ℕ, eqb, ltb, ℤ, length, take}
+use Rattle.std.specs.Prelude.{Bool, true, false, cond, List, [], ◌∷◌, ℕ, eqb, ltb, ℤ, length, take, Result, Ok, Err}
 use Rattle.std.proofs.Math.Option.{Option, none, some}
+use Rattle.refusal.specs.declared.Refusal.{Refusal}
+use Rattle.refusal.specs.Number.{number_of}
 use Rattle.geometry.specs.Lent.{points}
 use Rattle.geometry.specs.Answers.{Answer as Told, refused as denied, answered}
 use Rattle.polygon.specs.Ring.{first_fault}
 use Rattle.machine.specs.Answer.{Answer, refused, unfinished, delivered}
 use Rattle.checks.specs.Checks.{any_below, first_four}
-use Rattle.job.specs.Job.{Counts}
+use Rattle.job.specs.declared.reader.Counts.{Counts}
 use Rattle.job.specs.Feed.{feed_of}
 use Rattle.host.specs.declared.loops.TourAnswer.{TourAnswer}
 use Rattle.host.specs.declared.job_file.TourJob.{TourJob}
@@ -35,6 +37,11 @@ unfoldable pub fed : ℕ → (x y : List ℤ) (ring : List ℕ) → Told ℕ
 fed n x y ring =
     let number = first_four n (points x y) (any_below n (length x ∷ length y ∷ length ring ∷ [])) (take n ring) in
     cond (eqb number 0) (answered (feed_of (points x y) (take n ring))) (denied number)
+
+-- a result of the code in these words
+abbrev pub told : {A : Type 0} → Result A Refusal → Told A
+told (Ok a) = answered a
+told (Err refusal) = denied (number_of refusal)
 
 -- 0 with the feed, else the number of the refusal
 abbrev pub feed_in_numbers : Told ℕ → TourFeed

@@ -1,10 +1,12 @@
 // The job reader for hosts.
-ghost use Rattle.std.specs.Prelude.{◌≡◌};
+ghost use Rattle.std.specs.Prelude.{◌≡◌, Result};
 ghost use Rattle.job.specs.Job.{Reading, outcome_of};
-ghost use Rattle.job.specs.declared.reader.Outcome.{Outcome};
+ghost use Rattle.job.specs.declared.reader.Counts.{Counts};
+ghost use Rattle.refusal.specs.declared.Refusal.{Refusal};
 ghost use Rattle.host.specs.Numbers.{job_in_numbers};
 
-use job::reader::{Outcome, read_job};
+use job::reader::{Counts, read_job};
+use refusal::Refusal;
 
 // Code 0 with the counts of points and picks that were read, else the number of the refusal and no counts.
 #[repr(C)]
@@ -15,20 +17,22 @@ pub struct TourJob {
     pub picks: usize,
 }
 
-fn in_numbers(outcome: Outcome) -> TourJob
-    ensures { result ≡ job_in_numbers (outcome_of outcome) }
-{
-    match outcome {
-        Outcome::Read { points, picks } => TourJob {
-            code: 0,
-            points: points,
-            picks: picks,
-        },
-        Outcome::Refused(number) => TourJob {
-            code: number as u32,
-            points: 0,
-            picks: 0,
-        },
+impl From<Result<Counts, Refusal>> for TourJob {
+    ghost from_gives = { λ outcome told. told ≡ job_in_numbers (outcome_of outcome) };
+
+    fn from(outcome: Result<Counts, Refusal>) -> TourJob {
+        match outcome {
+            Ok(Counts { points, picks }) => TourJob {
+                code: 0,
+                points,
+                picks,
+            },
+            Err(refusal) => TourJob {
+                code: refusal.number() as u32,
+                points: 0,
+                picks: 0,
+            },
+        }
     }
 }
 
@@ -40,7 +44,7 @@ pub extern "C" fn tour_read_job(
     y: &mut [i32],
     picks: &mut [u32],
 ) -> TourJob
-    ensures { (o : Outcome) × (result ≡ job_in_numbers (outcome_of o)) × Reading job.now x.old y.old picks.old o x.new y.new picks.new }
+    ensures { (o : Result Counts Refusal) × (result ≡ job_in_numbers (outcome_of o)) × Reading job.now x.old y.old picks.old o x.new y.new picks.new }
 {
-    in_numbers(read_job(job, x, y, picks))
+    read_job(job, x, y, picks).into()
 }

@@ -1,9 +1,11 @@
 // The feed of a loop for hosts.
-ghost use Rattle.std.specs.Prelude.{◌≡◌};
-ghost use Rattle.host.specs.Numbers.{fed, feed_in_numbers};
+ghost use Rattle.std.specs.Prelude.{◌≡◌, Result};
+ghost use Rattle.refusal.specs.declared.Refusal.{Refusal};
+ghost use Rattle.host.specs.Numbers.{told, fed, feed_in_numbers};
 
-use checks::refusal::first_four;
-use job::feed::feed;
+use checks::accept::{first_four, too_short};
+use job::feed::Loop;
+use refusal::Refusal;
 
 // Code 0 with the feed, else the number of the refusal and no feed.
 #[repr(C)]
@@ -13,22 +15,33 @@ pub struct TourFeed {
     pub feed: u64,
 }
 
+impl From<Result<u64, Refusal>> for TourFeed {
+    ghost from_gives = { λ feed given. given ≡ feed_in_numbers (told feed) };
+
+    fn from(feed: Result<u64, Refusal>) -> TourFeed {
+        match feed {
+            Ok(feed) => TourFeed { code: 0, feed },
+            Err(refusal) => TourFeed {
+                code: refusal.number() as u32,
+                feed: 0,
+            },
+        }
+    }
+}
+
+fn feed(n: usize, x: &[i32], y: &[i32], ring: &[u16]) -> Result<u64, Refusal>
+    ensures { told result ≡ fed n x.now y.now ring.now }
+{
+    let short = too_short(n, &[x.len(), y.len(), ring.len()], &[]);
+    first_four(n, x, y, ring, short)?;
+    let ring = &ring[0..n];
+    Ok(Loop { x, y, ring }.feed())
+}
+
 // The feed of the loop that the ring's first n entries name.
-#[tactic(auto, using(crate::proofs::Feeding::told_refused))]
 #[unsafe(no_mangle)]
 pub extern "C" fn tour_feed(n: usize, x: &[i32], y: &[i32], ring: &[u16]) -> TourFeed
     ensures { result ≡ feed_in_numbers (fed n x.now y.now ring.now) }
 {
-    let short = (x.len() < n) | ((y.len() < n) | (ring.len() < n));
-    let number = first_four(n, x, y, ring, short);
-    if 0 < number {
-        return TourFeed {
-            code: number as u32,
-            feed: 0,
-        };
-    }
-    TourFeed {
-        code: 0,
-        feed: feed(x, y, &ring[0..n]),
-    }
+    feed(n, x, y, ring).into()
 }

@@ -6,7 +6,8 @@ ghost use Rattle.two_opt.specs.Entry.{answer_of, loan, Entry};
 ghost use Rattle.intersection_set.specs.Pool.{lent};
 ghost use Rattle.host.specs.Numbers.{in_numbers};
 
-use two_opt::entries::{Answer, resolve_self_intersections, two_opt_moves};
+use refusal::Refusal;
+use two_opt::entries::{Delivered, resolve_self_intersections, two_opt_moves};
 
 // An answer in numbers: code 0 with moves and cross for a delivered loop, code 8 with moves and left where the picks are used up, else
 // the number of the refusal alone. What a code does not name is 0.
@@ -19,28 +20,30 @@ pub struct TourAnswer {
     pub left: usize,
 }
 
-fn in_numbers(answer: Answer) -> TourAnswer
-    ensures { (ring : List ℕ) → result ≡ in_numbers (answer_of answer ring) }
-{
-    match answer {
-        Answer::Delivered { moves, cross } => TourAnswer {
-            code: 0,
-            moves: moves,
-            cross: cross,
-            left: 0,
-        },
-        Answer::Stopped { moves, left } => TourAnswer {
-            code: 8,
-            moves: moves,
-            cross: 0,
-            left: left,
-        },
-        Answer::Refused { number } => TourAnswer {
-            code: number as u32,
-            moves: 0,
-            cross: 0,
-            left: 0,
-        },
+impl From<Result<Delivered, Refusal>> for TourAnswer {
+    ghost from_gives = { λ done told. (ring : List ℕ) → told ≡ in_numbers (answer_of done ring) };
+
+    fn from(done: Result<Delivered, Refusal>) -> TourAnswer {
+        match done {
+            Ok(Delivered { moves, cross }) => TourAnswer {
+                code: 0,
+                moves,
+                cross,
+                left: 0,
+            },
+            Err(Refusal::PicksUsedUp { moves, left }) => TourAnswer {
+                code: 8,
+                moves,
+                cross: 0,
+                left,
+            },
+            Err(refusal) => TourAnswer {
+                code: refusal.number() as u32,
+                moves: 0,
+                cross: 0,
+                left: 0,
+            },
+        }
     }
 }
 
@@ -64,9 +67,10 @@ pub extern "C" fn tour_two_opt_moves(
         let is = loan ring.new index.new (lent heads.new ends.new links.new dense.new reverse.new free.new) in
         ((a : Told) × (result ≡ in_numbers a) × Entry n x.now y.now (up_from 0 n) picks.now was is a) }
 {
-    in_numbers(two_opt_moves(
+    two_opt_moves(
         n, x, y, picks, ring, index, heads, ends, links, dense, reverse, free,
-    ))
+    )
+    .into()
 }
 
 // A loop through the points, starting from the lent ring.
@@ -89,7 +93,8 @@ pub extern "C" fn tour_resolve_self_intersections(
         let is = loan ring.new index.new (lent heads.new ends.new links.new dense.new reverse.new free.new) in
         ((a : Told) × (result ≡ in_numbers a) × Entry n x.now y.now (take n ring.old) picks.now was is a) }
 {
-    in_numbers(resolve_self_intersections(
+    resolve_self_intersections(
         n, x, y, picks, ring, index, heads, ends, links, dense, reverse, free,
-    ))
+    )
+    .into()
 }

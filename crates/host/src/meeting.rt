@@ -3,16 +3,17 @@ ghost use Rattle.std.specs.Prelude.{◌≡◌};
 ghost use Rattle.geometry.specs.Answers.{meeting, verdict_of};
 ghost use Rattle.host.specs.Numbers.{yes_or_no};
 
-use geometry::line_segment::{Verdict, meets};
+use geometry::line_segment::meets;
 use geometry::point::Point;
+use refusal::Refusal;
 
-fn in_number(verdict: Verdict) -> u32
-    ensures { result ≡ yes_or_no (verdict_of verdict) }
+fn in_number(met: Result<bool, Refusal>) -> u32
+    ensures { result ≡ yes_or_no (verdict_of met) }
 {
-    match verdict {
-        Verdict::Yes => 1,
-        Verdict::No => 0,
-        Verdict::Refused => 3,
+    match met {
+        Ok(true) => 1,
+        Ok(false) => 0,
+        Err(refusal) => refusal.number() as u32,
     }
 }
 

@@ -4,7 +4,8 @@ ghost use Rattle.geometry.specs.Answers.{answered};
 ghost use Rattle.polygon.specs.Place.{fault_of};
 ghost use Rattle.host.specs.Numbers.{ring_fault, fault_in_numbers};
 
-use polygon::polygon::{RingFault, first_fault};
+use polygon::polygon::first_fault;
+use polygon::position::PositionId;
 
 // Code 0 where each point is named once, 4 with the position of the first entry at fault, else the number of the refusal and no position.
 #[repr(C)]
@@ -14,15 +15,15 @@ pub struct TourFault {
     pub position: usize,
 }
 
-fn in_numbers(fault: RingFault) -> TourFault
+fn in_numbers(fault: Option<PositionId>) -> TourFault
     ensures { result ≡ fault_in_numbers (answered (fault_of fault)) }
 {
     match fault {
-        RingFault::At(position) => TourFault {
+        Some(position) => TourFault {
             code: 4,
             position: position.0 as usize,
         },
-        RingFault::Nowhere => TourFault {
+        None => TourFault {
             code: 0,
             position: 0,
         },

@@ -1,88 +1,57 @@
 // The text of an answer, line by line.
-ghost use Rattle.std.specs.Prelude.{◌≤◌, length};
-
-// Puts `text` into the line at `at`, as far as there is room, and answers the place behind it.
-fn put(text: &[u8], line: &mut [u8], at: usize) -> usize
-    requires { at ≤ length line.old }
-    ensures { result ≤ length line.new }
-{
-    let mut p = at;
-    let mut i = 0usize;
-    while i < text.len() {
-        if p >= line.len() {
-            return p;
-        }
-        line[p] = text[i];
-        p += 1;
-        i += 1;
-    }
-    p
-}
-
-// A text and a number.
-fn put_field(text: &[u8], v: u64, line: &mut [u8], at: usize) -> usize
-    requires { at ≤ length line.old }
-    ensures { result ≤ length line.new }
-{
-    let p = put(text, line, at);
-    let mut digits = [0u8; 20];
-    let k = io::decimal(v, &mut digits);
-    put(&digits[..k], line, p)
-}
-
-// A blank and a point number.
-fn put_point(point: u16, line: &mut [u8], at: usize) -> usize
-    requires { at ≤ length line.old }
-    ensures { result ≤ length line.new }
-{
-    put_field(b" ", point as u64, line, at)
-}
-
-// Ends the line behind its first `at` bytes, and writes it.
-fn write_line(line: &mut [u8], at: usize)
-    requires { at ≤ length line.old }
-{
-    let p = put(b"\n", line, at);
-    io::write_all(1, &line[0..p]);
-}
-
-// `ok moves M cross C`
-pub fn write_delivered(moves: u64, cross: u64, line: &mut [u8]) {
-    let p = put_field(b"ok moves ", moves, line, 0);
-    let q = put_field(b" cross ", cross, line, p);
-    write_line(line, q);
-}
-
-// `refused 8 moves M left L`
-pub fn write_stopped(moves: u64, left: u64, line: &mut [u8]) {
-    let p = put_field(b"refused 8 moves ", moves, line, 0);
-    let q = put_field(b" left ", left, line, p);
-    write_line(line, q);
-}
-
-// `refused K`
-pub fn write_refused(number: u64, line: &mut [u8]) {
-    let p = put_field(b"refused ", number, line, 0);
-    write_line(line, p);
-}
+use refusal::Refusal;
+use std::io::{self, Write};
+use two_opt::entries::Delivered;
 
 // `ring A B ..`
-pub fn write_ring(ring: &[u16], line: &mut [u8]) {
-    let mut p = put(b"ring", line, 0);
-    let mut i = 0usize;
-    while i < ring.len() {
-        p = put_point(ring[i], line, p);
-        i += 1;
+fn write_ring<W: Write>(out: &mut W, ring: &[u16]) -> io::Result<()> {
+    write!(out, "ring")?;
+    for point in ring {
+        write!(out, " {point}")?;
     }
-    write_line(line, p);
+    writeln!(out)
 }
 
-// `record A B C D`
-pub fn write_record(a: u16, b: u16, c: u16, d: u16, line: &mut [u8]) {
-    let p = put(b"record", line, 0);
-    let q = put_point(a, line, p);
-    let r = put_point(b, line, q);
-    let s = put_point(c, line, r);
-    let t = put_point(d, line, s);
-    write_line(line, t);
+// The four point numbers of a record, which stand in one word.
+fn points_of(ends: u64) -> [u16; 4] {
+    let [a0, a1, b0, b1, c0, c1, d0, d1] = ends.to_le_bytes();
+    [
+        u16::from_le_bytes([a0, a1]),
+        u16::from_le_bytes([b0, b1]),
+        u16::from_le_bytes([c0, c1]),
+        u16::from_le_bytes([d0, d1]),
+    ]
+}
+
+// `record A B C D` for the record in each slot.
+fn write_records<W: Write>(out: &mut W, slots: &[u16], ends: &[u64]) -> io::Result<()> {
+    for slot in slots {
+        if let Some(word) = ends.get(*slot as usize) {
+            let [a, b, c, d] = points_of(*word);
+            writeln!(out, "record {a} {b} {c} {d}")?;
+        }
+    }
+    Ok(())
+}
+
+// What an entry answered, with the ring and the records left.
+pub fn write_answer<W: Write>(
+    out: &mut W,
+    done: Result<Delivered, Refusal>,
+    ring: &[u16],
+    dense: &[u16],
+    ends: &[u64],
+) -> io::Result<()> {
+    match done {
+        Ok(Delivered { moves, cross }) => {
+            writeln!(out, "ok moves {moves} cross {cross}")?;
+            write_ring(out, ring)
+        }
+        Err(Refusal::PicksUsedUp { moves, left }) => {
+            writeln!(out, "refused 8 moves {moves} left {left}")?;
+            write_ring(out, ring)?;
+            write_records(out, &dense[..left.min(dense.len())], ends)
+        }
+        Err(refusal) => writeln!(out, "refused {}", refusal.number()),
+    }
 }

@@ -1,76 +1,67 @@
-// A case on standard input: its header, then its body.
-ghost use Rattle.std.specs.Prelude.{◌≤◌, ◌<◌, length};
+// A case of the input: its header, then its body.
 
-use super::words::word;
-
-// What the first three words of a case say.
+// The entry that a case is put to.
 #[derive(Clone, Copy)]
-pub struct Header {
-    pub kind: u32,
-    pub n: u32,
-    pub picks: u32,
+pub enum Kind {
+    TwoOptMoves,
+    ResolveSelfIntersections,
 }
 
-#[derive(Clone, Copy)]
-pub enum Next {
-    Case(Header),
-    Bad,
-    End,
-}
+// A case that is cut off, of another kind, or of too many picks.
+#[derive(Debug, Drop)]
+pub struct BadCase;
 
-impl Header {
-    // The bytes that follow the header.
-    pub fn size(self) -> u64 {
-        let points = 8 * self.n as u64;
-        let picks = 4 * self.picks as u64;
-        if self.kind == 1 {
-            return points + 4 * self.n as u64 + picks;
+impl TryFrom<u32> for Kind {
+    type Error = BadCase;
+
+    fn try_from(word: u32) -> Result<Kind, BadCase> {
+        match word {
+            0 => Ok(Kind::TwoOptMoves),
+            1 => Ok(Kind::ResolveSelfIntersections),
+            _ => Err(BadCase),
         }
-        points + picks
     }
 }
 
-// Reads the next header.
-pub fn read_header() -> Next {
-    let mut head = [0u8; 12];
-    let got = io::read_full(0, &mut head);
-    if got == 0 {
-        return Next::End;
+// The words of a case. Only a case for `resolve_self_intersections` has a ring.
+#[derive(Clone, Copy)]
+pub struct Case<'a> {
+    pub kind: Kind,
+    pub points: &'a [[u8; 4]],
+    pub ring: &'a [[u8; 4]],
+    pub picks: &'a [[u8; 4]],
+}
+
+// Takes so many words off the input.
+fn take_words<'a>(input: &mut &'a [u8], count: usize) -> Result<&'a [[u8; 4]], BadCase> {
+    let size = count.checked_mul(4).ok_or(BadCase)?;
+    let (words, rest) = input.split_at_checked(size).ok_or(BadCase)?;
+    *input = rest;
+    Ok(words.as_chunks::<4>().0)
+}
+
+// Takes the next case off the input; none is left at its end.
+pub fn next_case<'a>(input: &mut &'a [u8]) -> Result<Option<Case<'a>>, BadCase> {
+    if input.is_empty() {
+        return Ok(None);
     }
-    if got < 12 {
-        return Next::Bad;
-    }
-    let header = Header {
-        kind: word(&head, 0),
-        n: word(&head, 4),
-        picks: word(&head, 8),
+    let [kind, n, picks] = take_words(input, 3)? else {
+        return Err(BadCase);
     };
-    if 1 < header.kind {
-        return Next::Bad;
+    let kind = Kind::try_from(u32::from_le_bytes(*kind))?;
+    let n = u32::from_le_bytes(*n) as usize;
+    let picks = u32::from_le_bytes(*picks) as usize;
+    if 4096 < picks {
+        return Err(BadCase);
     }
-    if 4096 < header.picks {
-        return Next::Bad;
-    }
-    Next::Case(header)
-}
-
-// Reads `size` bytes to the start of body, and says whether all came.
-pub fn read_body(size: u64, body: &mut [u8]) -> bool {
-    let len = size as usize;
-    if len <= body.len() {
-        return io::read_full(0, &mut body[0..len]) == len;
-    }
-    false
-}
-
-// Reads over `size` bytes, and says whether all came.
-pub fn skip(size: u64, body: &mut [u8]) -> bool {
-    let mut left = size;
-    while left > 4096 {
-        if !read_body(4096, body) {
-            return false;
-        }
-        left -= 4096;
-    }
-    read_body(left, body)
+    let entries = match kind {
+        Kind::TwoOptMoves => 0,
+        Kind::ResolveSelfIntersections => n,
+    };
+    Ok(Some(Case {
+        kind,
+        points: take_words(input, 2 * n)?,
+        ring: take_words(input, entries)?,
+        picks: take_words(input, picks)?,
+    }))
 }

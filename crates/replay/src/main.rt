@@ -10,54 +10,26 @@
 mod answer;
 mod case;
 mod solve;
-mod words;
 
-use case::{Next, read_body, read_header, skip};
-use solve::solve;
+use case::next_case;
+use solve::Buffers;
+use std::io::{self, BufWriter, Read, Write};
 
-fn bad_case(number: u64) -> bool {
-    io::write_all(1, b"bad case ");
-    io::print_decimal(1, number);
-    io::write_all(1, b"\n");
-    false
-}
-
-// Answers the next case, and says whether there may be another.
-fn answer_next(number: u64, body: &mut [u8], line: &mut [u8]) -> bool {
-    match read_header() {
-        Next::Case(header) => {
-            // Check 1 needs no points: they are read over.
-            if 256 < header.n {
-                if !skip(header.size(), body) {
-                    return bad_case(number);
-                }
-                solve(header, &body[0..0], line);
-                return true;
+fn main(rt: HostRuntime) -> io::Result<()> {
+    let mut input = Vec::new(rt.alloc());
+    rt.reader().read_to_end(&mut input)?;
+    let mut out = BufWriter::new(rt.alloc(), io::writer(&rt))?;
+    let mut buffers = Buffers::new(rt.alloc())?;
+    let mut rest = input.as_slice();
+    for number in 1..u64::MAX {
+        match next_case(&mut rest) {
+            Ok(Some(case)) => buffers.solve(rt.alloc(), case, &mut out)?,
+            Ok(None) => break,
+            Err(_) => {
+                writeln!(out, "bad case {number}")?;
+                break;
             }
-            if !read_body(header.size(), body) {
-                return bad_case(number);
-            }
-            solve(header, body, line);
-            true
         }
-        Next::Bad => bad_case(number),
-        Next::End => false,
     }
-}
-
-// A proved loop has to end: it counts down from a number that no input uses up.
-fn replay(body: &mut [u8], line: &mut [u8]) {
-    let mut left = u64::MAX;
-    while left > 0 {
-        if !answer_next(u64::MAX - left + 1, body, line) {
-            return;
-        }
-        left -= 1;
-    }
-}
-
-fn main() {
-    let mut body = [0u8; 19456];
-    let mut line = [0u8; 2048];
-    replay(&mut body, &mut line);
+    out.flush()
 }

@@ -1,148 +1,115 @@
-// One case, from its bytes to its answer.
-ghost use Rattle.std.specs.Prelude.{◌*◌, ◌≤◌};
+// One case, from its words to its answer.
+use super::answer::write_answer;
+use super::case::{Case, Kind};
+use refusal::Refusal;
+use std::alloc::{AllocError, Global};
+use std::io::{self, Write};
+use two_opt::entries::{Delivered, resolve_self_intersections, two_opt_moves};
 
-use super::answer::{write_delivered, write_record, write_refused, write_ring, write_stopped};
-use super::case::Header;
-use super::words::{read_coordinates, read_picks, read_ring};
-use two_opt::entries::{Answer, resolve_self_intersections, two_opt_moves};
+// The two entries take and answer the same.
+type Entry = fn(
+    usize,
+    &[i32],
+    &[i32],
+    &[u32],
+    &mut [u16],
+    &mut [u16],
+    &mut [u16],
+    &mut [u64],
+    &mut [u64],
+    &mut [u16],
+    &mut [u16],
+    &mut [u16],
+) -> Result<Delivered, Refusal>;
 
-fn least(a: usize, b: usize) -> usize
-    ensures { (result ≤ a) × (result ≤ b) }
-{
-    if a < b { a } else { b }
+// What is enough for every call that is not refused: that many points, and a record for each of their pairs in each order.
+const POINTS: usize = 256;
+
+const RECORDS: usize = POINTS * (POINTS - 1);
+
+// What a run is lent beside its points, picks and ring. A run starts with whatever the one before it left here.
+#[derive(Drop)]
+pub struct Buffers {
+    index: Vec<u16>,
+    heads: Vec<u16>,
+    ends: Vec<u64>,
+    links: Vec<u64>,
+    dense: Vec<u16>,
+    reverse: Vec<u16>,
+    free: Vec<u16>,
 }
 
-// The first n ring entries.
-fn write_order(n: usize, ring: &[u16], line: &mut [u8]) {
-    let shown = least(n, ring.len());
-    write_ring(&ring[0..shown], line);
-}
-
-// The record in slot s.
-fn write_slot(slot: u16, ends: &[u64], line: &mut [u8]) {
-    let s = slot as usize;
-    if s >= ends.len() {
-        return;
+impl Buffers {
+    pub fn new(alloc: Global) -> Result<Buffers, AllocError> {
+        Ok(Buffers {
+            index: vec![in alloc; 1; POINTS]?,
+            heads: vec![in alloc; 2; RECORDS]?,
+            ends: vec![in alloc; 3; RECORDS]?,
+            links: vec![in alloc; 5; RECORDS]?,
+            dense: vec![in alloc; 11; RECORDS]?,
+            reverse: vec![in alloc; 12; RECORDS]?,
+            free: vec![in alloc; 13; RECORDS]?,
+        })
     }
-    let w = ends[s];
-    write_record(
-        (w % 65536) as u16,
-        (w / 65536 % 65536) as u16,
-        (w / 4294967296 % 65536) as u16,
-        (w / 281474976710656 % 65536) as u16,
-        line,
-    );
-}
 
-// The first `left` records in dense order.
-fn write_records(left: usize, dense: &[u16], ends: &[u64], line: &mut [u8]) {
-    let mut i = 0usize;
-    while i < dense.len() {
-        if i >= left {
-            return;
-        }
-        write_slot(dense[i], ends, line);
-        i += 1;
-    }
-}
-
-// What an entry answered, with the ring and the records left.
-fn write_answer(
-    answer: Answer,
-    n: usize,
-    ring: &[u16],
-    dense: &[u16; 65280],
-    ends: &[u64; 65280],
-    line: &mut [u8],
-) {
-    match answer {
-        Answer::Delivered { moves, cross } => {
-            write_delivered(moves as u64, cross as u64, line);
-            write_order(n, ring, line);
-        }
-        Answer::Stopped { moves, left } => {
-            write_stopped(moves as u64, left as u64, line);
-            write_order(n, ring, line);
-            write_records(left, dense, ends, line);
-        }
-        Answer::Refused { number } => write_refused(number as u64, line),
-    }
-}
-
-// Runs the entry that the case names, in buffers that hold anything at first.
-fn run(
-    kind: u32,
-    n: usize,
-    x: &[i32],
-    y: &[i32],
-    picks: &[u32],
-    ring: &mut [u16; 256],
-    line: &mut [u8],
-) {
-    let mut index = [1u16; 256];
-    let mut heads = [2u16; 65280];
-    let mut ends = [3u64; 65280];
-    let mut links = [5u64; 65280];
-    let mut dense = [11u16; 65280];
-    let mut reverse = [12u16; 65280];
-    let mut free = [13u16; 65280];
-    let answer = if kind == 0 {
-        two_opt_moves(
+    // Runs the entry that the case names.
+    fn run(
+        &mut self,
+        kind: Kind,
+        n: usize,
+        x: &[i32],
+        y: &[i32],
+        picks: &[u32],
+        ring: &mut [u16],
+    ) -> Result<Delivered, Refusal> {
+        let entry: Entry = match kind {
+            Kind::TwoOptMoves => two_opt_moves,
+            Kind::ResolveSelfIntersections => resolve_self_intersections,
+        };
+        entry(
             n,
             x,
             y,
             picks,
             ring,
-            &mut index,
-            &mut heads,
-            &mut ends,
-            &mut links,
-            &mut dense,
-            &mut reverse,
-            &mut free,
+            &mut self.index,
+            &mut self.heads,
+            &mut self.ends,
+            &mut self.links,
+            &mut self.dense,
+            &mut self.reverse,
+            &mut self.free,
         )
-    } else {
-        resolve_self_intersections(
-            n,
-            x,
-            y,
-            picks,
-            ring,
-            &mut index,
-            &mut heads,
-            &mut ends,
-            &mut links,
-            &mut dense,
-            &mut reverse,
-            &mut free,
-        )
-    };
-    write_answer(answer, n, ring, &dense, &ends, line);
-}
-
-// The bytes of a case's ring.
-fn ring_size(kind: u32, n: u32) -> usize
-    ensures { result ≤ 4 * n }
-{
-    if kind == 1 {
-        return 4 * n as usize;
     }
-    0
-}
 
-// Reads the case's points, ring and picks, and answers it. A case without a ring starts with any.
-pub fn solve(header: Header, body: &[u8], line: &mut [u8]) {
-    let n = header.n as usize;
-    let mut x = [0i32; 256];
-    read_coordinates(body, 0, &mut x);
-    let mut y = [0i32; 256];
-    read_coordinates(body, 4, &mut y);
-    let ring_at = least(8 * n, body.len());
-    let mut ring = [0u16; 256];
-    read_ring(&body[ring_at..], &mut ring);
-    let picks_at = least(8 * n + ring_size(header.kind, header.n), body.len());
-    let mut picks = [0u32; 4096];
-    read_picks(&body[picks_at..], &mut picks);
-    let used = least(header.picks as usize, 4096);
-    run(header.kind, n, &x, &y, &picks[0..used], &mut ring, line);
+    // Runs a case and writes its answer. A case without a ring starts with any; an entry that 16 bits do not hold names no point, as 65,535 does.
+    pub fn solve<W: Write>(
+        &mut self,
+        alloc: Global,
+        case: Case<'_>,
+        out: &mut W,
+    ) -> io::Result<()> {
+        let points = case.points.as_chunks::<2>().0;
+        let n = points.len();
+        let x = points
+            .iter()
+            .map(|p| i32::from_le_bytes(p[0]))
+            .collect::<Vec<i32>>(alloc)?;
+        let y = points
+            .iter()
+            .map(|p| i32::from_le_bytes(p[1]))
+            .collect::<Vec<i32>>(alloc)?;
+        let picks = case
+            .picks
+            .iter()
+            .map(|w| u32::from_le_bytes(*w))
+            .collect::<Vec<u32>>(alloc)?;
+        let entries = case.ring.iter().map(|w| u16::try_from(u32::from_le_bytes(*w)).unwrap_or(
+            u16::MAX,
+        ));
+        let mut ring = entries.collect::<Vec<u16>>(alloc)?;
+        ring.resize(n, 0)?;
+        let done = self.run(case.kind, n, &x, &y, &picks, &mut ring);
+        write_answer(out, done, &ring, &self.dense, &self.ends)
+    }
 }

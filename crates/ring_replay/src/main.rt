@@ -2,58 +2,39 @@
 //
 // Standard input is a row of rings, each of five bytes: how many entries it has, at most 4, and four entries, of which the first so many count.
 // Each ring is answered by a line: the position of the first entry that is no point's number or names a point again, or `none`.
+// A ring of more than 4 entries or one that is cut off ends the run.
 #![tactic(auto)]
 
-ghost use Rattle.std.specs.Prelude.{◌≤◌, length};
+use polygon::polygon::first_fault;
+use polygon::position::PositionId;
+use std::fmt;
+use std::io::{self, BufWriter, Read, Write};
 
-use polygon::polygon::{RingFault, first_fault};
+// Where a ring is wrong.
+#[derive(Drop)]
+struct Fault(Option<PositionId>);
 
-// The line of a ring.
-fn tell(ring: &[u16])
-    requires { length ring.now ≤ 256 }
-{
-    match first_fault(ring) {
-        RingFault::At(position) => {
-            io::print_decimal(1, position.0 as u64);
+impl fmt::Display for Fault {
+    fn fmt<W: fmt::Write>(&self, f: &mut fmt::Formatter<W>) -> fmt::Result {
+        match self.0 {
+            Some(position) => write!(f, "{}", position.0),
+            None => write!(f, "none"),
         }
-        RingFault::Nowhere => {
-            io::write_all(1, b"none");
+    }
+}
+
+fn main(rt: HostRuntime) -> io::Result<()> {
+    let mut input = Vec::new(rt.alloc());
+    rt.reader().read_to_end(&mut input)?;
+    let mut out = BufWriter::new(rt.alloc(), io::writer(&rt))?;
+    let (cases, _) = input.as_chunks::<5>();
+    for [count, a, b, c, d] in cases {
+        let n = *count as usize;
+        if 4 < n {
+            break;
         }
+        let ring = [*a as u16, *b as u16, *c as u16, *d as u16];
+        writeln!(out, "{}", Fault(first_fault(&ring[..n])))?;
     }
-    io::write_all(1, b"\n");
-}
-
-fn wide(b: u8) -> u16 {
-    b as u16
-}
-
-// Answers the ring that stands in five bytes. False where it has more than 4 entries.
-fn answer(case: &[u8; 5]) -> bool {
-    let n = wide(case[0]) as usize;
-    if 4 < n {
-        return false;
-    }
-    let ring = [wide(case[1]), wide(case[2]), wide(case[3]), wide(case[4])];
-    tell(&ring[0..n]);
-    true
-}
-
-// Reads and answers the next ring. False at the end of the input.
-fn answer_next() -> bool {
-    let mut case = [0u8; 5];
-    if io::read_full(0, &mut case) < 5 {
-        return false;
-    }
-    answer(&case)
-}
-
-// A proved loop has to end: it counts down from a number that no input uses up.
-fn main() {
-    let mut left = u64::MAX;
-    while left > 0 {
-        if !answer_next() {
-            return;
-        }
-        left -= 1;
-    }
+    out.flush()
 }

@@ -15,7 +15,11 @@ use Rattle.geometry.specs.Lent.{coord, points}
 use Rattle.machine.specs.Answer.{call}
 use Rattle.job.specs.Buffers.{over}
 use Rattle.job.specs.Job.{x_at, y_at, pick_at, refusal, accepted}
-use Rattle.job.specs.Text.{refused_line}
+use Rattle.refusal.specs.Number.{number_of}
+use Rattle.refusal.specs.declared.Refusal.{Refusal}
+use Rattle.job.specs.Text.{refusal_line}
+use Rattle.job.proofs.Lines.{other_line}
+use Rattle.job.proofs.Refusals.{never_eight}
 use Rattle.job.proofs.Written.{table, length_table, over_at}
 use Rattle.job.proofs.ReadJobs.{WasRead, WasRefused}
 use Rattle.tour.specs.Printed.{told, printed}
@@ -56,12 +60,13 @@ unfolding over
 take_table l f n = ap (λ k. take k (over l f n)) (sym (length_table f n)) ∙ take-append_seam (table f n) (drop n l)
 
 module _ (job : List ℕ) (x y : List ℤ) (q : List ℕ) (lx : length x ≡ 48) (ly : length y ≡ 48) (lq : length q ≡ 4096) where
-  pub refused_printed : {k : ℕ} {x' y' : List ℤ} {q' : List ℕ} → WasRefused job x y q k x' y' q' → refused_line k ≡ printed job
+  pub refused_printed : (r : Refusal) {x' y' : List ℤ} {q' : List ℕ} → WasRefused job x y q (number_of r) x' y' q' → refusal_line r ≡ printed job
   unfolding printed accepted
-  refused_printed {k} w =
-      let e : refusal job 48 48 4096 ≡ k = (λ t. refusal job (sym lx t) (sym ly t) (sym lq t)) ∙ w.number in
+  refused_printed r w =
+      let e : refusal job 48 48 4096 ≡ number_of r = (λ t. refusal job (sym lx t) (sym ly t) (sym lq t)) ∙ w.number in
       let no : refusal job 48 48 4096 ≡ 0 → ⊥ = λ z. w.some (sym e ∙ z) in
       rw (ne_eqb (refusal job 48 48 4096) 0 no, e)
+      (sym (other_line r (λ moves left is. never_eight job 48 48 4096 (e ∙ ap number_of is))))
 
   module _ (zx : all_zero x ≡ true) (zy : all_zero y ≡ true) where
     pub read_printed : {n m : ℕ} {x' y' : List ℤ} {q' : List ℕ} → WasRead job x y q n m x' y' q'

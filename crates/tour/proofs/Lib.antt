@@ -6,3 +6,5 @@ pub mod Delivered
 pub mod Jobs
 -- The room for a job's points
 pub mod Room
+-- A refusal is told by its line
+pub mod Told

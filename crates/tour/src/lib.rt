@@ -1,43 +1,43 @@
 // From a job to what is printed of it.
 #![tactic(auto)]
 
-ghost use Rattle.std.specs.Prelude.{ℕ, ◌≤◌, ◌≡◌, false, length, take};
+ghost use Rattle.std.specs.Prelude.{ℕ, ◌≤◌, ◌≡◌, false, length, take, Ok};
 ghost use Rattle.algebra.specs.Ranges.{up_from};
 ghost use Rattle.geometry.specs.Lent.{points, Lent};
 ghost use Rattle.machine.specs.Answer.{call};
 ghost use Rattle.job.specs.Buffers.{Put};
 ghost use Rattle.job.specs.Feed.{Drawn};
 ghost use Rattle.two_opt.specs.Entry.{answer_of};
-ghost use Rattle.two_opt.specs.declared.entries.Answer.TheVariants.{Delivered};
+ghost use Rattle.two_opt.specs.declared.entries.Delivered.{Delivered};
 ghost use Rattle.tour.specs.Printed.{told, printed};
 
-use job::reader::{Outcome, read_job};
-use job::report::{Report, put_report};
-use two_opt::entries::{Answer, two_opt_moves};
+use job::feed::Loop;
+use job::reader::{Counts, read_job};
+use job::report::{Summary, put_report};
+use refusal::Refusal;
+use two_opt::entries::{Delivered, two_opt_moves};
 
-// Writes the text of an answer. The ring's first n entries are the loop, if one is delivered.
-fn tell(a: Answer, n: usize, x: &[i32], y: &[i32], ring: &[u16], out: &mut [u8]) -> usize
+// Writes the text of what an entry answered. The ring's first n entries are the loop, if one is delivered.
+#[tactic(auto, using(crate::proofs::Told::told_refusal), unfolding(crate::specs::Printed::told, job::specs::Text::report_text))]
+fn tell(
+    done: Result<Delivered, Refusal>,
+    n: usize,
+    x: &[i32],
+    y: &[i32],
+    ring: &[u16],
+    out: &mut [u8],
+) -> usize
     requires n_bound { (n ≤ 48) × (n ≤ length ring.now) × (2216 ≤ length out.old) }
-    requires by_index { (m c : ℕ) → a ≡ Delivered m c → Drawn x.now y.now (take n ring.now) }
-    ensures put { Put out.old 0 (told (points x.now y.now) (answer_of a (take n ring.now))) result out.new }
+    requires by_index { (d : Delivered) → done ≡ Ok d → Drawn x.now y.now (take n ring.now) }
+    ensures put { Put out.old 0 (told (points x.now y.now) (answer_of done (take n ring.now))) result out.new }
     ensures within { result ≤ length out.new }
 {
-    match a {
-        Answer::Delivered { moves, cross } => put_report(
-            Report::Delivered { moves, cross },
-            x,
-            y,
-            &ring[0..n],
-            out,
-        ),
-        Answer::Stopped { moves: _, left } => put_report(
-            Report::Stopped { left },
-            x,
-            y,
-            &ring[0..0],
-            out,
-        ),
-        Answer::Refused { number } => put_report(Report::Refused(number), x, y, &ring[0..0], out),
+    match done {
+        Ok(Delivered { moves, cross }) => {
+            let ring = &ring[..n];
+            put_report(Ok(Summary { moves, cross }), Loop { x, y, ring }, out)
+        }
+        Err(refusal) => put_report(Err(refusal), Loop::empty(), out),
     }
 }
 
@@ -55,7 +55,7 @@ fn deliver(n: usize, x: &[i32], y: &[i32], picks: &[u32], out: &mut [u8]) -> usi
     let mut dense = [0u16; 2256];
     let mut reverse = [0u16; 2256];
     let mut free = [0u16; 2256];
-    let answer = two_opt_moves(
+    let done = two_opt_moves(
         n,
         x,
         y,
@@ -69,7 +69,7 @@ fn deliver(n: usize, x: &[i32], y: &[i32], picks: &[u32], out: &mut [u8]) -> usi
         &mut reverse,
         &mut free,
     );
-    tell(answer, n, x, y, &ring, out)
+    tell(done, n, x, y, &ring, out)
 }
 
 // Writes what is printed of a job to the start of `out`, and answers its length. 2,216 bytes hold the longest text: 104 for the first line, 44 for each
@@ -82,9 +82,8 @@ pub fn tour(job: &[u8], out: &mut [u8]) -> usize
     let mut x = [0i32; 48];
     let mut y = [0i32; 48];
     let mut picks = [0u32; 4096];
-    let none = [0u16; 0];
     match read_job(job, &mut x, &mut y, &mut picks) {
-        Outcome::Refused(k) => put_report(Report::Refused(k), &x, &y, &none, out),
-        Outcome::Read { points, picks: m } => deliver(points, &x, &y, &picks[0..m], out),
+        Ok(Counts { points, picks: m }) => deliver(points, &x, &y, &picks[..m], out),
+        Err(unread) => put_report(Err(unread), Loop::empty(), out),
     }
 }
