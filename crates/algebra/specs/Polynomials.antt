@@ -3,8 +3,9 @@
 -- `solve e f ρ tt : ⟦ e ⟧ ρ ≡ ⟦ f ⟧ ρ` wherever e − f normalizes to zero, which antt computes.
 use Rattle.std.specs.Prelude.{◌≡◌, refl, Bool, true, false, ◌&&◌, List, [], ◌∷◌, ℕ, zero, suc, ℤ, pos, negsuc, neg_ℤ, ◌+ℤ◌, ◌-ℤ◌, ◌*ℤ◌, T}
 use Rattle.std.proofs.Common.{sym, ◌∙◌, ap, ap₂, arith}
-use Rattle.std.proofs.Math.IntN.{+ℤ_idl, +ℤ_idr, +ℤ_comm, +ℤ_assoc, +ℤ_invr, zero-*ℤ, *ℤ-zero}
-use Rattle.algebra.specs.Integers.{is_self, is_eq, is_add, is_mul, is_neg, *ℤ-assoc, *ℤ-+ℤ, +ℤ-*ℤ}
+use Rattle.std.proofs.Math.IntN.{+ℤ_idl, +ℤ_idr, +ℤ_comm, +ℤ_assoc, +ℤ_invr, zero-*ℤ, *ℤ-zero, *ℤ_comm}
+use borrow.Author.Differences.{ints}
+use Rattle.algebra.specs.Integers.{*ℤ-assoc, *ℤ-+ℤ, +ℤ-*ℤ}
 
 -- ---- expressions
 infixl 6 ◌:+◌ ◌:-◌
@@ -104,22 +105,22 @@ null (hor p q) = null p && null q
 
 -- ---- soundness
 swap4 : (p q r s : ℤ) → (p +ℤ q) +ℤ (r +ℤ s) ≡ (p +ℤ r) +ℤ (q +ℤ s)
-swap4 p q r s = is_eq (is_add (is_add (is_self p) (is_self q)) (is_add (is_self r) (is_self s))) (is_add (is_add (is_self p) (is_self r)) (is_add (is_self q) (is_self s))) (omega arith)
+swap4 p q r s = omega (arith, ints)
 
 left_comm : (p q r : ℤ) → p *ℤ (q *ℤ r) ≡ q *ℤ (p *ℤ r)
-left_comm p q r = is_eq (is_mul (is_self p) (is_mul (is_self q) (is_self r))) (is_mul (is_self q) (is_mul (is_self p) (is_self r))) (omega arith)
+left_comm p q r = sym (*ℤ-assoc p q r) ∙ ap (λ t. t *ℤ r) (*ℤ_comm p q) ∙ *ℤ-assoc q p r
 
 add_mul : (p q x r : ℤ) → (p +ℤ x *ℤ q) *ℤ r ≡ p *ℤ r +ℤ x *ℤ (q *ℤ r)
 add_mul p q x r = +ℤ-*ℤ p (x *ℤ q) r ∙ ap (λ t. p *ℤ r +ℤ t) (*ℤ-assoc x q r)
 
 one-*ℤ : (p : ℤ) → p *ℤ pos 1 ≡ p
-one-*ℤ p = is_eq (is_mul (is_self p) (is_self (pos 1))) (is_self p) (omega arith)
+one-*ℤ p = omega (arith, ints)
 
 minus : (p : ℤ) → negsuc 0 *ℤ p ≡ neg_ℤ p
-minus p = is_eq (is_mul (is_self (negsuc 0)) (is_self p)) (is_neg (is_self p)) (omega arith)
+minus p = omega (arith, ints)
 
 pad : (p x : ℤ) → p +ℤ x *ℤ pos 0 ≡ p
-pad p x = ap (λ t. p +ℤ t) (*ℤ-zero x) ∙ +ℤ_idr p
+pad p x = omega (arith, ints)
 
 ev_vr : (i : ℕ) (ρ : Env) → ev (vr i) ρ ≡ ρ i
 ev_vr zero ρ = +ℤ_idl (ρ 0 *ℤ pos 1) ∙ one-*ℤ (ρ 0)
@@ -194,7 +195,7 @@ null_sound (hor p q) ρ t =
     ap₂ ◌+ℤ◌ (null_sound p (sh ρ) (and_l (null p) (null q) t)) (ap (λ s. ρ 0 *ℤ s) (null_sound q ρ (and_r (null p) (null q) t)) ∙ *ℤ-zero (ρ 0))
 
 pub sub_zero : (a b : ℤ) → a -ℤ b ≡ pos 0 → a ≡ b
-sub_zero a b h = sym (+ℤ_idr a) ∙ is_eq (is_add (is_self a) (is_self (pos 0))) (is_add (is_add (is_self a) (is_neg (is_self b))) (is_self b)) (omega arith) ∙ ap (λ t. t +ℤ b) h ∙ +ℤ_idl b
+sub_zero a b h = omega (arith, ints)
 
 -- ---- THE THEOREM
 pub solve : (e f : E) (l : List ℤ) → T (null (norm (e :- f))) → ⟦ e ⟧ (env l) ≡ ⟦ f ⟧ (env l)

@@ -1,28 +1,32 @@
 -- The size of an integer, in ℕ, and what fits a machine word.
-use Rattle.std.specs.Prelude.{ℕ, ◌+◌, ◌*◌, ◌^◌, ◌≤◌, ◌<◌, ℤ, pos, negsuc, ◌+ℤ◌, ◌-ℤ◌, ◌*ℤ◌}
-use Rattle.std.proofs.Common.{arith, mul-le-mul_left, mul-le-mul_right, le_trans}
+use Rattle.std.specs.Prelude.{◌≡◌, ℕ, ◌+◌, ◌-◌, ◌*◌, ◌^◌, ◌≤◌, ◌<◌, ℤ, pos, negsuc, ◌+ℤ◌, ◌-ℤ◌, ◌*ℤ◌}
+use Rattle.std.proofs.Common.{arith}
+use Rattle.std.proofs.lemmas.Int.{ints}
 use Rattle.std.specs.Int.{Width}
 use mir.Val.{SFits, hbits}
-use Rattle.algebra.specs.Integers.{P, N, Is, is_self, is_add, is_neg, is_mul}
+use borrow.Author.Differences.{up, down}
+pub use Rattle.std.proofs.lemmas.Nat.{mul-le as mul_bound}
+pub use Rattle.algebra.specs.Integers.{P, N}
 
 abbrev pub abs : ℤ → ℕ
 abs z = P z + N z
 
-abs_is : (z : ℤ) (a b : ℕ) → Is z a b → P z + N z ≤ a + b
-abs_is (pos n) a b h = omega (arith, h.is)
-abs_is (negsuc n) a b h = omega (arith, h.is)
+-- the size by the two parts that `omega (arith, ints)` reads
+pub abs_is : (z : ℤ) → abs z ≡ (up z - down z) + (down z - up z)
+abs_is (pos n) = omega arith
+abs_is (negsuc n) = omega arith
 
 pub abs_sub : (a b : ℤ) → abs (a -ℤ b) ≤ abs a + abs b
-abs_sub a b = omega (arith, abs_is (a -ℤ b) (P a + N b) (N a + P b) (is_add (is_self a) (is_neg (is_self b))))
+abs_sub a b = omega (arith, ints, abs_is (a -ℤ b), abs_is a, abs_is b)
 
 pub abs_add : (a b : ℤ) → abs (a +ℤ b) ≤ abs a + abs b
-abs_add a b = omega (arith, abs_is (a +ℤ b) (P a + P b) (N a + N b) (is_add (is_self a) (is_self b)))
+abs_add a b = omega (arith, ints, abs_is (a +ℤ b), abs_is a, abs_is b)
 
 pub abs_mul : (a b : ℤ) → abs (a *ℤ b) ≤ abs a * abs b
-abs_mul a b = omega (arith, abs_is (a *ℤ b) (P a * P b + N a * N b) (P a * N b + N a * P b) (is_mul (is_self a) (is_self b)))
-
-pub mul_bound : (a b m n : ℕ) → a ≤ m → b ≤ n → a * b ≤ m * n
-mul_bound a b m n h k = le_trans (mul-le-mul_right b h) (mul-le-mul_left m k)
+abs_mul (pos a) (pos b) = omega arith
+abs_mul (pos a) (negsuc b) = omega (arith, ints, abs_is (pos a *ℤ negsuc b))
+abs_mul (negsuc a) (pos b) = omega (arith, ints, abs_is (negsuc a *ℤ pos b))
+abs_mul (negsuc a) (negsuc b) = omega arith
 
 pub fits : (w : Width) (z : ℤ) → abs z < 2 ^ hbits w → SFits w z
 fits w (pos n) h = record { sfits = omega arith }

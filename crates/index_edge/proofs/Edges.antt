@@ -20,14 +20,6 @@ edge_sym a b =
     (λ h. both (le_cases (suc b) a) (λ g. absurd (omega arith)) (λ g. rw (h.1, g.1)))
     (λ h. both (le_cases (suc b) a) (λ g. rw (h.1, g.1)) (λ g. rw (h.1, g.1) (edge_eq _ _ (omega arith) (omega arith))))
 
-pub edge_cases : (a b c d : ℕ) → edge a b ≡ edge c d → ((a ≡ c) × (b ≡ d)) ⊎ ((a ≡ d) × (b ≡ c))
-edge_cases a b c d e =
-    let lo = ap (λ (x : Edge). x.lo) e in
-    let hi = ap (λ (x : Edge). x.hi) e in
-    both (le_cases (suc a) b)
-    (λ h. both (le_cases (suc c) d) (λ g. inl (rw (h.1, g.1) at lo, rw (h.1, g.1) at hi)) (λ g. inr (rw (h.1, g.1) at lo, rw (h.1, g.1) at hi)))
-    (λ h. both (le_cases (suc c) d) (λ g. inr (rw (h.1, g.1) at hi, rw (h.1, g.1) at lo)) (λ g. inl (rw (h.1, g.1) at hi, rw (h.1, g.1) at lo)))
-
 -- ---- tests on edges
 pub eq_edge_true : (e f : Edge) → eq_edge e f ≡ true → e ≡ f
 eq_edge_true e f t =

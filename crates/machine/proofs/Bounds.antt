@@ -10,7 +10,7 @@ use Rattle.geometry.specs.Plane.{Point}
 use Rattle.index_edge.specs.Edge.{Edge, edge_in, eq_edge, lt_edge}
 use Rattle.intersection_set.specs.Store.{Rec, Store, push, counted}
 use Rattle.machine.specs.Machine.{State, Laid, doubled, fresh, fresh_over, fresh_with, scan_over, scans, pairs_with, pairs}
-use Rattle.polygon.specs.Edges.{edges}
+use Rattle.polygon.specs.Edges.{edges, edge_at}
 use Rattle.algebra.specs.Ranges.{up_from, up_from_length}
 use Rattle.machine.specs.Board.{meet_edges}
 use Rattle.algebra.specs.Cases.{and_left, and_right, both, true_or_false, or_right}
@@ -113,10 +113,10 @@ square : (n x : ℕ) → x + n ≤ n * n → x ≤ n * (n - 1)
 square zero x h = omega arith
 square (suc k) x h = let e : suc k - 1 ≡ k = omega arith in rw e (omega arith)
 
-module _ (n : ℕ) (pt : ℕ → Point) where
-  edges_length : (r : List ℕ) → length (edges n r) ≡ n
-  edges_length r = length-map (up_from 0 n) _ ∙ up_from_length 0 n
+pub edges_length : (n : ℕ) (r : List ℕ) → length (edges n r) ≡ n
+edges_length n r = length-map (up_from 0 n) (edge_at n r) ∙ up_from_length 0 n
 
+module _ (n : ℕ) (pt : ℕ → Point) where
   fresh_tally : (all l : List Edge) → length (fresh_over pt all l) ≤ tally lt_edge l all
   unfolding tally
   fresh_tally all [] = omega arith
@@ -133,7 +133,7 @@ module _ (n : ℕ) (pt : ℕ → Point) where
   pub fresh_few : (r : List ℕ) → 2 * length (fresh n pt r) ≤ n * (n - 1)
   fresh_few r =
       square n (2 * length (fresh n pt r))
-      (let h : 2 * tally lt_edge (edges n r) (edges n r) + n ≤ n * n = subst (λ (k : ℕ). 2 * tally lt_edge (edges n r) (edges n r) + k ≤ k * k) (edges_length r) (in_order_few (edges n r)) in
+      (let h : 2 * tally lt_edge (edges n r) (edges n r) + n ≤ n * n = subst (λ (k : ℕ). 2 * tally lt_edge (edges n r) (edges n r) + k ≤ k * k) (edges_length n r) (in_order_few (edges n r)) in
       omega (arith, fresh_tally (edges n r) (edges n r)))
 
   -- no pair is recorded more than twice

@@ -1,7 +1,7 @@
 -- Demand 3 holds: for runs from any state whose record is exact, and so for those from the start.
-use mathlib.Core.Path.{◌≡◌, refl, ◌∙◌, ap, sym}
+use mathlib.Core.Path.{◌≡◌, ◌∙◌, ap, sym}
 use mathlib.Core.Bool.{Bool, true, false, not, ◌&&◌, cond}
-use mathlib.Core.List.{List, [], ◌∷◌}
+use mathlib.Core.List.{List, []}
 use mathlib.Core.Logic.{◌≢◌, ◌↔◌, inl, inr}
 use Prim.Native.Nat.{ℕ, ◌*◌, ◌<◌}
 use native.Mathlib.Omega.{arith}
@@ -9,7 +9,7 @@ use lib.ListN.{length}
 use borrow.Author.Tests.{eq-eqb, ne_eqb}
 use Rattle.geometry.specs.Plane.{Point}
 use Rattle.index_edge.specs.Edge.{Edge, eq_edge, lt_edge, edge_in}
-use Rattle.intersection_set.specs.Store.{Rec, counted}
+use Rattle.intersection_set.specs.Store.{counted}
 use Rattle.machine.specs.Machine.{State, Traced, doubled, nothing_twice, start, begin, run_word, after, fresh}
 use Rattle.polygon.specs.Ring.{IsRing}
 use Rattle.polygon.specs.Edges.{edges, IsEdge}
@@ -18,6 +18,7 @@ use Rattle.machine.specs.Answer.{delivered, finish, answer_from}
 use Rattle.machine.specs.Demand3.{Pair, Search, Loop, Demand3, Least, Picks}
 use Rattle.machine.specs.Onward.{Onward}
 use Rattle.geometry.specs.Segment.{Meet}
+use Rattle.std.proofs.lemmas.List.{nil_from_length}
 use Rattle.algebra.specs.Counting.{one}
 use Rattle.algebra.specs.Cases.{both, true_or_false, and_left, and_right}
 use Rattle.index_edge.proofs.Edges.{eq_edge_false, lt_edge_other}
@@ -119,10 +120,6 @@ module _ (n : ℕ) (pt : ℕ → Point) (board : Board n pt) where
     empty : (t.now.store.dense ≡ []) ↔ (fresh n pt t.now.ring ≡ [])
     empty = none_left n pt was t inv
 
-    no_length : (l : List Rec) → length l ≡ 0 → l ≡ []
-    no_length [] h = refl
-    no_length (a ∷ l) h = absurd (omega arith)
-
     pub onward : (k : ℕ) → Onward n pt was w cs t₀ k
     onward k = record {
       ring = inv.ring_ok;
@@ -134,7 +131,7 @@ module _ (n : ℕ) (pt : ℕ → Point) (board : Board n pt) where
       twice = λ e f p h. times e f 1 true (search.each e f p) h;
       once = λ e f p h. times e f 1 false (search.each e f p) h;
       delivers = λ h. rw (eq-eqb (length t.now.store.dense) 0 (ap length (empty.1 h)));
-      withholds = λ h. rw (ne_eqb (length t.now.store.dense) 0 (λ z. h (empty.0 (no_length t.now.store.dense z))));
+      withholds = λ h. rw (ne_eqb (length t.now.store.dense) 0 (λ z. h (empty.0 (nil_from_length t.now.store.dense z))));
       loop = loop_of t.now.ring inv.ring_ok;
       longer = λ more h. ap (answer_from n pt k) (run_longer n pt w cs more t₀ (empty.1 h));
       moves = moves_from n pt w board picks was cs t₀ inv₀;

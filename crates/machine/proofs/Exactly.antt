@@ -7,6 +7,7 @@ use native.Mathlib.Omega.{arith}
 use borrow.Author.Tests.{eqb-false}
 use lib.Dec.{eqb}
 use lib.ListN.{length, get_or}
+use Rattle.std.proofs.lemmas.Bool.{cond_both}
 use Rattle.algebra.specs.Counting.{one, count_p, count_at}
 use Rattle.geometry.specs.Plane.{Point}
 use Rattle.index_edge.specs.Edge.{Edge, eq_edge, lt_edge, edge_in}
@@ -89,10 +90,6 @@ out_of_order aE bE t m h = rw (h, and-false bE, and-false aE)
 zero_times : (x k : ℕ) → x ≡ 0 → x * k ≡ 0
 zero_times x k h = rw h (omega arith)
 
-cond_same : {A : Type 0} (b : Bool) (x : A) → cond b x x ≡ x
-cond_same true x = refl
-cond_same false x = refl
-
 module _ (n : ℕ) (pt : ℕ → Point) (was : Edge → Edge → Bool) where
   -- the words of demand 3, of a state and a log; `was` says which pairs were named twice before the moves of the log
   abbrev pub Exact : State → List Laid → Type 0
@@ -127,7 +124,7 @@ module _ (n : ℕ) (pt : ℕ → Point) (was : Edge → Edge → Bool) where
         ∙ scans_not pt a b h (edges n (turned n m r)) (lay n m r) (removes C s.store)
         ∙ sym (counted_is a b (removes C s.store).dense)
         ∙ counted_removes a b C s.store
-        ∙ rw y (cond_same (not (edge_in a C || edge_in b C)) 0)
+        ∙ rw y (cond_both (not (edge_in a C || edge_in b C)) 0 0 (λ x. x ≡ 0) (λ _. refl) (λ _. refl))
 
     pub carry_exact : Exact (carry n pt m s) (record { hoisted = by_hoist m; news = lay n m s.ring } ∷ g)
     carry_exact a b =

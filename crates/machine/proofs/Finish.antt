@@ -7,7 +7,8 @@ use Prim.Native.Nat.{ℕ, zero, suc, ◌-◌, ◌≤◌, ◌<◌}
 use native.Mathlib.Omega.{arith}
 use lib.IntN.{ℤ, pos, neg_ℤ}
 use lib.Signed.{lt_z, ◌≤ℤ◌, ◌<ℤ◌}
-use Rattle.algebra.specs.Linear.{zarith, opp}
+use borrow.Author.Differences.{ints}
+use Rattle.algebra.specs.Signs.{flip}
 use Rattle.algebra.specs.Polynomials.{neg}
 use Rattle.algebra.specs.Identities.{ident, pair, ◌:=◌}
 use Rattle.geometry.proofs.Turns.{turn_of_edge}
@@ -106,8 +107,8 @@ module _ (n : ℕ) (pt : ℕ → Point) (r : List ℕ) (some : 0 < n) (ring : Is
     finish_is = record {
       least = m;
       is_least = least_found n pt r apart some;
-      clockwise = λ h. both (lt_int_cases (turn_at n pt r m) (pos 0)) (λ g. rw g.1) (λ g. absurd (omega zarith));
-      counter = λ h. both (lt_int_cases (turn_at n pt r m) (pos 0)) (λ g. absurd (omega zarith)) (λ g. rw g.1);
+      clockwise = λ h. both (lt_int_cases (turn_at n pt r m) (pos 0)) (λ g. rw g.1) (λ g. absurd (omega (arith, ints)));
+      counter = λ h. both (lt_int_cases (turn_at n pt r m) (pos 0)) (λ g. absurd (omega (arith, ints))) (λ g. rw g.1);
       corner = nz;
     }
 
@@ -118,11 +119,8 @@ module _ (n : ℕ) (pt : ℕ → Point) (r : List ℕ) (some : 0 < n) (ring : Is
         both (lt_int_cases (turn_at n pt r m) (pos 0))
         (λ h. let lw = whole_lt n some m le.within in
         let e : turn_at n pt (turned_round n r) (whole n some m) ≡ neg_ℤ (turn_at n pt r m) = back_turn n some r pt (whole n some m) lw ∙ ap (λ j. neg_ℤ (turn_at n pt r j)) (whole_whole n some m le.within) in
-        rw h.1 (whole n some m, back_least n some r pt m le, rw e (flipped (turn_at n pt r m) h.0)))
+        rw h.1 (whole n some m, back_least n some r pt m le, rw e (flip h.0)))
         (λ h. rw h.1 (m, le, positive (turn_at n pt r m) h.0 nz))
       where
-        flipped : (z : ℤ) → z <ℤ pos 0 → pos 0 <ℤ neg_ℤ z
-        flipped z h = omega (zarith, opp z)
-
         positive : (z : ℤ) → pos 0 ≤ℤ z → z ≢ pos 0 → pos 0 <ℤ z
-        positive z h ne = both (lt_int_cases (pos 0) z) (λ g. g.0) (λ g. absurd (ne (omega zarith)))
+        positive z h ne = omega (arith, ints)

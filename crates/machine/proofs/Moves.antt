@@ -8,6 +8,7 @@ use native.Mathlib.Omega.{arith}
 use borrow.Author.Tests.{ltb-true, ltb-false, eqb-true, eqb-false, eq-eqb, ne_eqb}
 use lib.Dec.{eqb, ltb}
 use lib.ListN.{length, take}
+use Rattle.std.proofs.lemmas.List.{nil_from_length}
 use Rattle.algebra.specs.Counting.{one}
 use Rattle.geometry.specs.Plane.{Point}
 use Rattle.index_edge.specs.Edge.{Edge}
@@ -71,14 +72,10 @@ module _ (n : ℕ) (pt : ℕ → Point) where
     empty_or [] P f g = f refl
     empty_or (r ∷ l) P f g = g (λ h. absurd (omega (arith, ap length h)))
 
-    length_none : (l : List Rec) → length l ≡ 0 → l ≡ []
-    length_none [] h = refl
-    length_none (r ∷ l) h = absurd (omega arith)
-
     pub step_log : (c : ℕ) (t : Traced) → (t.now.store.dense ≡ [] → ⊥) → length (step n pt w c t).log ≡ suc (length t.log)
     step_log c t h =
         ap (λ (b : Bool). length (cond b t (carried n pt (plan_of n pt t.now (w c t.now)) t)).log)
-        (ne_eqb (length t.now.store.dense) 0 (λ u. h (length_none t.now.store.dense u)))
+        (ne_eqb (length t.now.store.dense) 0 (λ u. h (nil_from_length t.now.store.dense u)))
 
     pub moves_by : (cs : List ℕ) (t : Traced) → (k : ℕ) × (length (run_word n pt w cs t).log ≡ length t.log + k) × MovesBy cs t k
     moves_by [] t = (0, omega arith, record { within = omega arith; before = λ j h. absurd (omega arith); then_none = λ h. absurd (omega arith) })

@@ -3,10 +3,9 @@ use mathlib.Core.Path.{◌≡◌, ◌∙◌}
 use mathlib.Core.Bool.{Bool, cond}
 use mathlib.Core.List.{List, []}
 use mathlib.Core.Logic.{◌⊎◌, inl, inr}
-use Prim.Native.Nat.{ℕ, ◌-◌, ◌*◌, ◌≤◌}
+use Prim.Native.Nat.{ℕ, ◌*◌}
 use native.Mathlib.Omega.{arith}
 use lib.Dec.{ltb}
-use lib.ListN.{length}
 use Rattle.algebra.specs.Cases.{both, true_or_false, never}
 use Rattle.geometry.specs.Plane.{Point}
 use Rattle.index_edge.specs.Edge.{Edge}
@@ -19,7 +18,6 @@ use Rattle.machine.specs.Onward.{from, twice_of, Names, Ready, Onward}
 use Rattle.machine.proofs.GoodPlan.{once_edges}
 use Rattle.machine.proofs.Scans.{found, fresh_counted}
 use Rattle.machine.proofs.Exactly.{Exact}
-use Rattle.machine.proofs.Bounds.{few}
 use Rattle.machine.proofs.Room.{Whole, Roomy, begin_whole, run_whole}
 use Rattle.machine.proofs.Moments.{Moment, roomy_onward}
 use Rattle.machine.proofs.Demand3Holds.{found_pair, pair_found, onward}
@@ -37,10 +35,6 @@ module _ (n : ℕ) (pt : ℕ → Point) (board : Board n pt) where
       times : (x : ℕ) → (x ≡ 1) ⊎ (x ≡ 2) → x ≡ 1 * cond (ltb 1 x) 2 1
       times x (inl e) = rw e
       times x (inr e) = rw e
-
-  -- and has at most n * (n - 1) records, even where it names every pair twice
-  pub names_few : (s : State) → IsRing n s.ring → Names n pt s.ring s.store.dense → length s.store.dense ≤ n * (n - 1)
-  names_few s ring na = few n pt (twice_of s) s [] (names_exact s ring na)
 
   pub ready_whole : (s : State) → Ready n pt s → Whole n pt (twice_of s) (from s)
   ready_whole s ready = record { inv = record { ring_ok = ready.ring; exact = names_exact s ready.ring ready.names }; numbered = ready.numbered; room = ready.room }
