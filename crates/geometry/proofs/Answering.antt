@@ -5,6 +5,7 @@ use mathlib.Core.Bool.{Bool, true, false, not, ◌&&◌}
 use mathlib.Core.Logic.{◌≢◌, ◌↔◌}
 use Prim.Native.Nat.{ℕ}
 use native.Mathlib.Omega.{arith}
+use Rattle.std.specs.Cmp.Derive.{both_true}
 use Rattle.algebra.specs.Cases.{both, true_or_false, never, not_true, and_left, and_right}
 use Rattle.geometry.specs.Plane.{Point, eq_point, near_point}
 use Rattle.geometry.specs.Segment.{End, Contains, contains, Meet, meets}
@@ -43,9 +44,6 @@ yes_says ok v = (
 three_says : (ok v : Bool) → (checked ok v ≡ refused 3) ↔ (ok ≡ false)
 three_says ok v = (λ e. both (true_or_false ok) (λ t. not_both v (sym e ∙ sym (passed ok v t))) (λ t. t), λ t. sym (stopped ok v t))
 
-both_hold : {s t : Bool} → s ≡ true → t ≡ true → (s && t) ≡ true
-both_hold p q = λ i. p i && q i
-
 -- ---- contains
 module _ (a : Point) (ea : End) (b : Point) (eb : End) (p : Point) where
   pub containment_decides : (containment a ea b eb p ≡ answered true) ↔ ((proper a b ≡ true) × (near_point p ≡ true) × Contains a ea b eb p)
@@ -53,7 +51,7 @@ module _ (a : Point) (ea : End) (b : Point) (eb : End) (p : Point) where
       let y = yes_says (proper a b && near_point p) (contains a ea b eb p) in
       let d = contains_decides a ea b eb p in (
         λ e. (and_left (proper a b) (near_point p) (y.0 e).0, and_right (proper a b) (near_point p) (y.0 e).0, d.0 (y.0 e).1),
-        λ h. y.1 (both_hold h.0 h.1, d.1 h.2),
+        λ h. y.1 (both_true h.0 h.1, d.1 h.2),
       )
 
   pub containment_refuses : (containment a ea b eb p ≡ refused 3) ↔ ((proper a b && near_point p) ≡ false)
@@ -65,7 +63,7 @@ module _ (a a' b b' : Point) where
   meeting_decides =
       let y = yes_says (proper a a' && proper b b') (meets a a' b b') in (
         λ e. (let p = and_left (proper a a') (proper b b') (y.0 e).0 in let q = and_right (proper a a') (proper b b') (y.0 e).0 in (p, q, (decides p q).0 (y.0 e).1)),
-        λ h. y.1 (both_hold h.0 h.1, (decides h.0 h.1).1 h.2),
+        λ h. y.1 (both_true h.0 h.1, (decides h.0 h.1).1 h.2),
       )
     where
       decides : proper a a' ≡ true → proper b b' ≡ true → (meets a a' b b' ≡ true) ↔ Meet a a' b b'

@@ -1,6 +1,6 @@
 -- A test that chooses gives the chosen value; a check that passes puts the points within the limits; two tests give a sign.
 use mathlib.Core.Path.{◌≡◌, refl, sym, ◌∙◌, ap}
-use mathlib.Core.Bool.{Bool, true, false, not, ◌&&◌, cond}
+use mathlib.Core.Bool.{Bool, true, false, not, ◌&&◌, ◌||◌, cond}
 use Prim.Native.Nat.{zero, suc}
 use native.Mathlib.Omega.{arith}
 use lib.IntN.{ℤ, pos, negsuc}
@@ -25,15 +25,21 @@ passed ok v e = rw e
 pub stopped : {A : Type 0} (ok : Bool) (v : A) → ok ≡ false → refused 3 ≡ checked ok v
 stopped ok v e = rw e
 
-pub three_in_range : (a b c : Point) → (near_point a && (near_point b && near_point c)) ≡ true → InRange a × InRange b × InRange c
-three_in_range a b c e =
-    let f = and_right (near_point a) (near_point b && near_point c) e in
-    (in_range_lem a (and_left (near_point a) (near_point b && near_point c) e), in_range_lem b (and_left (near_point b) (near_point c) f), in_range_lem c (and_right (near_point b) (near_point c) f))
-
 pub ends_in_range : (a b : Point) → proper a b ≡ true → InRange a × InRange b
 ends_in_range a b e =
     let f = and_left (near_point a && near_point b) (not (eq_point a b)) e in
     (in_range_lem a (and_left (near_point a) (near_point b) f), in_range_lem b (and_right (near_point a) (near_point b) f))
+
+-- points within the limits are the ends of a segment where they differ
+ends_proper : {a b : Point} → InRange a → InRange b → proper a b ≡ not (eq_point a b)
+ends_proper h k = rw (h.nx, h.ny, k.nx, k.ny)
+
+neither : (s t : Bool) → not (s || t) ≡ (not s && not t)
+neither true t = refl
+neither false t = refl
+
+pub both_proper : {a b c d : Point} → InRange a → InRange b → InRange c → InRange d → {s t : Bool} → s ≡ eq_point a b → t ≡ eq_point c d → not (s || t) ≡ (proper a b && proper c d)
+both_proper ha hb hc hd {s} {t} e f = neither s t ∙ (λ i. not (e i) && not (f i)) ∙ sym (λ i. ends_proper ha hb i && ends_proper hc hd i)
 
 -- ---- the sign
 pub sign_above : (z t : ℤ) → z ≡ t → lt_z (pos 0) z ≡ true → pos 1 ≡ sign t

@@ -7,17 +7,14 @@ use native.Mathlib.Omega.{arith}
 use Rattle.algebra.specs.Cases.{both, true_or_false, never, not_true, and_left, and_right}
 use Rattle.geometry.specs.Plane.{Point, turn, eq_point, lt_point, min_point, max_point, collinear}
 use Rattle.geometry.specs.Segment.{End, exclusive, inclusive, NotAfter, Contains, admits, between, contains}
-use Rattle.geometry.proofs.Points.{zero_yes, zero_is, eq_point_same, eq_point_true, below_is, is_below, lt_point_irrefl, lt_point_flip, lt_point_total, lt_le, le_lt}
+use Rattle.geometry.proofs.Points.{zero_yes, zero_is, points_differ, eq_point_true, below_is, is_below, lt_point_irrefl, lt_point_flip, lt_point_total, lt_le, le_lt}
 use Rattle.geometry.proofs.Symmetry.{min_point_comm, max_point_comm}
 
 -- ---- not after, as a test
-differ : (a b : Point) → eq_point a b ≡ false → a ≢ b
-differ a b e f = never (eq_point a b) (eq_point_same a b f) e
-
 not_after : (a p : Point) → lt_point p a ≡ false → NotAfter a p
 not_after a p h =
     both (true_or_false (eq_point a p)) (λ e. inl (eq_point_true a p e))
-    (λ e. both (lt_point_total a p (differ a p e)) (λ t. inr (below_is a p t)) (λ t. never (lt_point p a) t h))
+    (λ e. both (lt_point_total a p (points_differ a p e)) (λ t. inr (below_is a p t)) (λ t. never (lt_point p a) t h))
 
 is_not_after : (a p : Point) → NotAfter a p → lt_point p a ≡ false
 is_not_after a p (inl e) = both (true_or_false (lt_point p a)) (λ t. absurd (lt_point_irrefl a (rw (sym e) at t))) (λ t. t)
@@ -45,7 +42,7 @@ between_is a b p h =
 
 -- ---- an end's mark
 admits_is : (e : End) (a p : Point) → admits e a p ≡ true → e ≡ exclusive → p ≢ a
-admits_is exclusive a p h f = differ p a (not_true (eq_point p a) h)
+admits_is exclusive a p h f = points_differ p a (not_true (eq_point p a) h)
 admits_is inclusive a p h f = let z : ◌≡◌ {A = ℕ} 0 1 = cc in absurd (omega arith)
 
 is_admitted : (e : End) (a p : Point) → (e ≡ exclusive → p ≢ a) → admits e a p ≡ true

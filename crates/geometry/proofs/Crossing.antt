@@ -4,8 +4,9 @@ use mathlib.Core.Bool.{true, false, not, ◌&&◌, ◌||◌}
 use mathlib.Core.List.{[], ◌∷◌}
 use mathlib.Core.Logic.{◌≢◌}
 use lib.IntN.{ℤ, pos, ◌*ℤ◌}
-use lib.Signed.{lt_z, ◌≤ℤ◌, ◌<ℤ◌}
-use Rattle.algebra.specs.Linear.{zarith}
+use lib.Signed.{◌≤ℤ◌, ◌<ℤ◌}
+use borrow.Author.Differences.{ints}
+use native.Mathlib.Omega.{arith}
 use Rattle.algebra.specs.Polynomials.{lit, ◌:*◌, hyp}
 use Rattle.algebra.specs.Identities.{follows, num, ◌:=◌, ◌⇐◌}
 use Rattle.algebra.specs.Order.{Sign, below, nul, above, sign, <ℤ-le}
@@ -13,15 +14,15 @@ use Rattle.algebra.specs.Signs.{mul_mixed, mul_mixed'}
 use Rattle.geometry.proofs.Places.{meets_by_signs, uncross}
 use Rattle.geometry.specs.Plane.{Point, turn, eq_point, collinear}
 use Rattle.geometry.specs.Segment.{CommonPlace, same_side, shared, meets}
-use Rattle.geometry.proofs.Points.{eq_point_same, zero_yes, zero_is, turn_round_lem, turn_first, three}
-use Rattle.algebra.specs.Cases.{T-is, and_left, and_right, both, true_or_false, never, or_right, not_true, or_no_left, or_no_right}
+use Rattle.geometry.proofs.Points.{points_differ, zero_yes, zero_is, turn_round_lem, turn_first, three}
+use Rattle.algebra.specs.Cases.{and_left, and_right, both, true_or_false, never, not_true, or_parts}
 
 -- ---- not on one side
 up_up : (p q : ℤ) → pos 0 <ℤ p → pos 0 <ℤ q → same_side p q ≡ true
-up_up p q h k = rw (T-is (lt_z (pos 0) p) h.lt, T-is (lt_z (pos 0) q) k.lt)
+up_up p q h k = grind (arith, ints)
 
 down_down : (p q : ℤ) → p <ℤ pos 0 → q <ℤ pos 0 → same_side p q ≡ true
-down_down p q h k = or_right (lt_z (pos 0) p && lt_z (pos 0) q) (lt_z p (pos 0) && lt_z q (pos 0)) (rw (T-is (lt_z p (pos 0)) h.lt, T-is (lt_z q (pos 0)) k.lt))
+down_down p q h k = grind (arith, ints)
 
 by_zero : (p q : ℤ) → p ≡ pos 0 → p *ℤ q ≡ pos 0
 by_zero = follows (num ∷ num ∷ []) (λ p q. (p :* q := lit (pos 0)) ⇐ (hyp q p (lit (pos 0)) ∷ [])) tt
@@ -33,7 +34,7 @@ apart_le : (p q : ℤ) → same_side p q ≡ false → (p *ℤ q) ≤ℤ pos 0
 apart_le p q e = go (sign p) (sign q)
   where
     zero-le : (z : ℤ) → z ≡ pos 0 → z ≤ℤ pos 0
-    zero-le z e = omega zarith
+    zero-le z e = omega (arith, ints)
 
     go : Sign p → Sign q → (p *ℤ q) ≤ℤ pos 0
     go (above h) (above k) = never (same_side p q) (up_up p q h k) e
@@ -70,20 +71,17 @@ module _ (a a' b b' : Point) (nf : (collinear a a' b && collinear a a' b') ≡ f
   no_share : shared a a' b b' ≡ false
   no_share = not_true (shared a a' b b') (and_left (not (shared a a' b b')) _ parts)
 
-  differ : (x y : Point) → eq_point x y ≡ false → x ≢ y
-  differ x y e f = never (eq_point x y) (eq_point_same x y f) e
-
   pub a_b : a ≢ b
-  a_b = differ a b (or_no_left (eq_point a b) (eq_point a b') (or_no_left (eq_point a b || eq_point a b') (eq_point a' b || eq_point a' b') no_share))
+  a_b = points_differ a b (or_parts (eq_point a b) (eq_point a b') (or_parts (eq_point a b || eq_point a b') (eq_point a' b || eq_point a' b') no_share).0).0
 
   pub a_b' : a ≢ b'
-  a_b' = differ a b' (or_no_right (eq_point a b) (eq_point a b') (or_no_left (eq_point a b || eq_point a b') (eq_point a' b || eq_point a' b') no_share))
+  a_b' = points_differ a b' (or_parts (eq_point a b) (eq_point a b') (or_parts (eq_point a b || eq_point a b') (eq_point a' b || eq_point a' b') no_share).0).1
 
   pub a'_b : a' ≢ b
-  a'_b = differ a' b (or_no_left (eq_point a' b) (eq_point a' b') (or_no_right (eq_point a b || eq_point a b') (eq_point a' b || eq_point a' b') no_share))
+  a'_b = points_differ a' b (or_parts (eq_point a' b) (eq_point a' b') (or_parts (eq_point a b || eq_point a b') (eq_point a' b || eq_point a' b') no_share).1).0
 
   pub a'_b' : a' ≢ b'
-  a'_b' = differ a' b' (or_no_right (eq_point a' b) (eq_point a' b') (or_no_right (eq_point a b || eq_point a b') (eq_point a' b || eq_point a' b') no_share))
+  a'_b' = points_differ a' b' (or_parts (eq_point a' b) (eq_point a' b') (or_parts (eq_point a b || eq_point a b') (eq_point a' b || eq_point a' b') no_share).1).1
 
 -- the two edges laid do not meet
 pub laid_apart : (a a' b b' : Point) → (collinear a a' b && collinear a a' b') ≡ false → meets a a' b b' ≡ true → meets a b a' b' ≡ false

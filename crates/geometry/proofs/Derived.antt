@@ -5,8 +5,10 @@ use borrow.Author.Rules.{rules}
 use Rattle.std.specs.Ordering.{int_eq, ord_min, ord_max, partial_lt}
 use Rattle.geometry.specs.Plane.{eq_point, lt_point, min_point, max_point}
 use Rattle.geometry.specs.declared.point.Point.{Point}
+use Rattle.geometry.specs.declared.point.NearPoint.{NearPoint}
 use Rattle.geometry.specs.contracts.point.PointOrd.TheImpl as Order
 use Rattle.geometry.specs.contracts.point.PointPartialOrd.TheImpl as Partial
+use Rattle.geometry.specs.contracts.point.NearPointOrd.TheImpl as NearOrder
 use Rattle.geometry.specs.Lent.{spot}
 
 module _ (a b : Point) where
@@ -21,3 +23,10 @@ module _ (a b : Point) where
 
   pub less_is : partial_lt (Partial.partial_cmp-value).it a b ≡ lt_point (spot a) (spot b)
   less_is = search rules
+
+module _ (a b : NearPoint) where
+  pub lesser_near : spot (ord_min (NearOrder.cmp-value).it a b).point ≡ min_point (spot a.point) (spot b.point)
+  lesser_near = search rules
+
+  pub greater_near : spot (ord_max (NearOrder.cmp-value).it a b).point ≡ max_point (spot a.point) (spot b.point)
+  greater_near = search rules

@@ -1,33 +1,26 @@
 -- The square of a distance: either way, how large it is, and when it is not 0.
-use mathlib.Core.Path.{◌≡◌}
+use mathlib.Core.Path.{◌≡◌, ap₂}
 use mathlib.Core.Logic.{◌≢◌}
 use Prim.Native.Nat.{ℕ, ◌+◌, ◌*◌, ◌≤◌}
 use native.Mathlib.Omega.{arith}
 use lib.IntN.{ℤ, pos, negsuc, ◌+ℤ◌, ◌-ℤ◌, ◌*ℤ◌}
 use Rattle.algebra.specs.Cases.{both, eq_cases}
-use Rattle.algebra.specs.Integers.{P, N, is_self, is_add, is_mul, is_eq}
-use Rattle.algebra.specs.Linear.{sub, eq_up}
-use Rattle.algebra.specs.Size.{abs, mul_bound}
+use borrow.Author.Differences.{ints}
+use Rattle.algebra.specs.Size.{abs, abs_is, mul_bound}
 use Rattle.geometry.specs.Plane.{Point, squared_distance}
 use Rattle.geometry.specs.Lent.{InRange}
 use Rattle.geometry.proofs.Reading.{gap_near}
 
 -- squares as the machine makes them
-square_is : (z : ℤ) → z *ℤ z ≡ pos (abs z * abs z)
-square_is (pos n) = is_eq (is_mul (is_self (pos n)) (is_self (pos n))) (is_self (pos (abs (pos n) * abs (pos n)))) (omega arith)
-square_is (negsuc n) = is_eq (is_mul (is_self (negsuc n)) (is_self (negsuc n))) (is_self (pos (abs (negsuc n) * abs (negsuc n)))) (omega arith)
-
 pub squares_are : (u v : ℤ) → u *ℤ u +ℤ v *ℤ v ≡ pos (abs u * abs u + abs v * abs v)
-squares_are u v = rw (square_is u, square_is v) (is_eq (is_add (is_self (pos (abs u * abs u))) (is_self (pos (abs v * abs v)))) (is_self (pos (abs u * abs u + abs v * abs v))) (omega arith))
+squares_are u v = ap₂ ◌+ℤ◌ (square_is u) (square_is v)
+  where
+    square_is : (z : ℤ) → z *ℤ z ≡ pos (abs z * abs z)
+    square_is (pos n) = omega (arith, ints)
+    square_is (negsuc n) = omega (arith, ints)
 
 abs_back : (a b : ℤ) → abs (a -ℤ b) ≡ abs (b -ℤ a)
-abs_back a b = go (a -ℤ b) (b -ℤ a) (omega (arith, sub a b, sub b a))
-  where
-    go : (u v : ℤ) → P u + P v ≡ N u + N v → abs u ≡ abs v
-    go (pos m) (pos n) h = omega arith
-    go (pos m) (negsuc n) h = omega arith
-    go (negsuc m) (pos n) h = omega arith
-    go (negsuc m) (negsuc n) h = omega arith
+abs_back a b = omega (arith, ints, abs_is (a -ℤ b), abs_is (b -ℤ a))
 
 pub distance_back : (a b : Point) → squared_distance a b ≡ squared_distance b a
 unfolding squared_distance
@@ -52,7 +45,7 @@ distance_some a b h =
     (λ nx. omega (arith, some (abs (a.x -ℤ b.x)) nx.0))
   where
     alike : (u v : ℤ) → abs (u -ℤ v) ≡ 0 → u ≡ v
-    alike u v e = eq_up u v (omega (arith, sub u v, e))
+    alike u v e = omega (arith, ints, abs_is (u -ℤ v))
 
     some : (p : ℕ) → p ≢ 0 → 1 ≤ p * p
     some p n = let l : 1 ≤ p = omega (arith, n) in omega (arith, mul_bound 1 1 p p l l)

@@ -6,7 +6,8 @@ use mathlib.Core.List.{[], ◌∷◌}
 use mathlib.Core.Logic.{inl, inr, ◌≢◌, ◌↔◌}
 use lib.IntN.{ℤ, pos, negsuc, ◌+ℤ◌, ◌-ℤ◌, ◌*ℤ◌}
 use lib.Signed.{◌≤ℤ◌, ◌<ℤ◌}
-use Rattle.algebra.specs.Linear.{zarith, add, sub}
+use borrow.Author.Differences.{ints}
+use native.Mathlib.Omega.{arith}
 use Rattle.algebra.specs.Polynomials.{lit, ◌:+◌, ◌:-◌, ◌:*◌, neg, hyp, sub_zero}
 use Rattle.algebra.specs.Identities.{ident, follows, num, pair, ◌:=◌, ◌⇐◌}
 use Rattle.algebra.specs.Order.{mul_pos, mul_nonneg}
@@ -19,15 +20,15 @@ use Rattle.geometry.proofs.Places.{way_of_edge, mir, turn_mir}
 use Rattle.geometry.proofs.Points.{zero_yes, zero_is, turn_back, lt_int_cases, below_is, is_below, lt_point_trans, lt_point_total, inside_if, inside_is}
 
 pub gap_pos : (p q : ℤ) → p <ℤ q → pos 0 <ℤ (q -ℤ p)
-gap_pos p q h = omega (zarith, sub q p)
+gap_pos p q h = omega (arith, ints)
 
 pub gap_le : (p q : ℤ) → p ≤ℤ q → pos 0 ≤ℤ (q -ℤ p)
-gap_le p q h = omega (zarith, sub q p)
+gap_le p q h = omega (arith, ints)
 
 -- on a line that is not upright, the same x is the same place
 pub same_y : (a a' b : Point) → a.x <ℤ a'.x → turn a a' b ≡ pos 0 → a.x ≡ b.x → a.y ≡ b.y
 same_y a a' b la z ex =
-    both (no_zero (a'.x -ℤ a.x) (a.y -ℤ b.y) (level a a' b z ex)) (λ k. absurd (omega (zarith, sub a'.x a.x))) (λ k. sub_zero a.y b.y k)
+    both (no_zero (a'.x -ℤ a.x) (a.y -ℤ b.y) (level a a' b z ex)) (λ k. absurd (omega (arith, ints))) (λ k. sub_zero a.y b.y k)
   where
     level : (a a' b : Point) → turn a a' b ≡ pos 0 → a.x ≡ b.x → (a'.x -ℤ a.x) *ℤ (a.y -ℤ b.y) ≡ pos 0
     level = follows (pair ∷ pair ∷ pair ∷ [])
@@ -36,7 +37,7 @@ same_y a a' b la z ex =
 -- on an upright line all have the same x
 pub same_x : (a a' v : Point) → a.x ≡ a'.x → a.y <ℤ a'.y → turn a a' v ≡ pos 0 → v.x ≡ a.x
 same_x a a' v e la z =
-    both (no_zero (a'.y -ℤ a.y) (v.x -ℤ a.x) (upright a a' v z e)) (λ k. absurd (omega (zarith, sub a'.y a.y))) (λ k. sub_zero v.x a.x k)
+    both (no_zero (a'.y -ℤ a.y) (v.x -ℤ a.x) (upright a a' v z e)) (λ k. absurd (omega (arith, ints))) (λ k. sub_zero v.x a.x k)
   where
     upright : (a a' v : Point) → turn a a' v ≡ pos 0 → a.x ≡ a'.x → (a'.y -ℤ a.y) *ℤ (v.x -ℤ a.x) ≡ pos 0
     upright = follows (pair ∷ pair ∷ pair ∷ [])
@@ -45,7 +46,7 @@ same_x a a' v e la z =
 -- the same at the second end
 same_y' : (a b v : Point) → a.x <ℤ b.x → turn a b v ≡ pos 0 → v.x ≡ b.x → v.y ≡ b.y
 same_y' a b v la z ex =
-    both (no_zero (b.x -ℤ a.x) (v.y -ℤ b.y) (level a b v z ex)) (λ k. absurd (omega (zarith, sub b.x a.x))) (λ k. sub_zero v.y b.y k)
+    both (no_zero (b.x -ℤ a.x) (v.y -ℤ b.y) (level a b v z ex)) (λ k. absurd (omega (arith, ints))) (λ k. sub_zero v.y b.y k)
   where
     level : (a b v : Point) → turn a b v ≡ pos 0 → v.x ≡ b.x → (b.x -ℤ a.x) *ℤ (v.y -ℤ b.y) ≡ pos 0
     level = follows (pair ∷ pair ∷ pair ∷ [])
@@ -57,7 +58,7 @@ by_x a b v av vb z = record {
   d = b.x -ℤ a.x;
   s = v.x -ℤ a.x;
   s> = gap_pos a.x v.x av;
-  s< = omega (zarith, sub v.x a.x, sub b.x a.x);
+  s< = omega (arith, ints);
   at_x = along a.x b.x v.x;
   at_y = across a b v z;
 }
@@ -77,7 +78,7 @@ inside_rev a b v m = record {
   d = m.d;
   s = m.d -ℤ m.s;
   s> = gap_pos m.s m.d m.s<;
-  s< = let h = m.s> in omega (zarith, sub m.d m.s);
+  s< = let h = m.s> in omega (arith, ints);
   at_x = turned m.d m.s a.x b.x v.x m.at_x;
   at_y = turned m.d m.s a.y b.y v.y m.at_y;
 }
@@ -89,26 +90,26 @@ in_order : (a b v : Point) → turn a b v ≡ pos 0 → lt_point a v ≡ true �
 in_order a b v z av vb =
     both (below_is a b (lt_point_trans a v b av vb))
     (λ h. by_x a b v
-    (both (below_is a v av) (λ g. g) (λ g. absurd (let e = same_y a b v h z g.0 in let f = g.1 in omega zarith)))
-    (both (below_is v b vb) (λ g. g) (λ g. absurd (let e = same_y' a b v h z g.0 in let f = g.1 in omega zarith)))
+    (both (below_is a v av) (λ g. g) (λ g. absurd (let e = same_y a b v h z g.0 in let f = g.1 in omega (arith, ints))))
+    (both (below_is v b vb) (λ g. g) (λ g. absurd (let e = same_y' a b v h z g.0 in let f = g.1 in omega (arith, ints))))
     z)
     (λ h. let e = same_x a b v h.0 h.1 z in
     let f = h.0 in
     inside_mir a b v (by_x (mir a) (mir b) (mir v)
-    (both (below_is a v av) (λ g. absurd (omega zarith)) (λ g. g.1))
-    (both (below_is v b vb) (λ g. absurd (omega zarith)) (λ g. g.1))
+    (both (below_is a v av) (λ g. absurd (omega (arith, ints))) (λ g. g.1))
+    (both (below_is v b vb) (λ g. absurd (omega (arith, ints))) (λ g. g.1))
     (turn_mir a b v z)))
 
 -- ---- from the place to the order
 strictly : (d s u w v : ℤ) → pos 0 <ℤ s → s <ℤ d → d *ℤ v ≡ way d s u w → u <ℤ w → (u <ℤ v) × (v <ℤ w)
 strictly d s u w v s> s< e lt =
-    let d≥ : pos 0 ≤ℤ d = omega zarith in
+    let d≥ : pos 0 ≤ℤ d = omega (arith, ints) in
     let p = mul_pos s> (gap_pos u w lt) in
     let q = mul_pos (gap_pos s d s<) (gap_pos u w lt) in (
       both (lt_int_cases u v) (λ h. h.0)
-          (λ h. let n = mul_nonneg d≥ (gap_le v u h.0) in let f = low d s u w v e in absurd (omega (zarith, add (d *ℤ (u -ℤ v)) (s *ℤ (w -ℤ u))))),
+          (λ h. let n = mul_nonneg d≥ (gap_le v u h.0) in let f = low d s u w v e in absurd (omega (arith, ints))),
       both (lt_int_cases v w) (λ h. h.0)
-          (λ h. let n = mul_nonneg d≥ (gap_le w v h.0) in let f = high d s u w v e in absurd (omega (zarith, add (d *ℤ (v -ℤ w)) ((d -ℤ s) *ℤ (w -ℤ u))))),
+          (λ h. let n = mul_nonneg d≥ (gap_le w v h.0) in let f = high d s u w v e in absurd (omega (arith, ints))),
     )
   where
     low : (d s u w v : ℤ) → d *ℤ v ≡ way d s u w → d *ℤ (u -ℤ v) +ℤ s *ℤ (w -ℤ u) ≡ pos 0
@@ -118,7 +119,7 @@ strictly d s u w v s> s< e lt =
     high = follows (num ∷ num ∷ num ∷ num ∷ num ∷ []) (λ d s u w v. (d :* (v :- w) :+ (d :- s) :* (w :- u) := lit (pos 0)) ⇐ (hyp (lit (pos 1)) (d :* v) (way_of_edge d s u w) ∷ [])) tt
 
 d_not_zero : {a b v : Point} (m : Inside a b v) → m.d ≡ pos 0 → ⊥
-d_not_zero m e = let h = m.s> in let k = m.s< in omega zarith
+d_not_zero m e = let h = m.s> in let k = m.s< in omega (arith, ints)
 
 on_the_line : (a b v : Point) → Inside a b v → turn a b v ≡ pos 0
 on_the_line a b v m = both (no_zero m.d (turn a b v) (times a b v m.d m.s m.at_x m.at_y)) (λ e. absurd (d_not_zero m e)) (λ e. e)
@@ -135,7 +136,7 @@ between a b v l m =
     (λ h. let o = strictly m.d m.s a.y b.y v.y m.s> m.s< m.at_y h.1 in
     let e = same_x a b v h.0 h.1 (on_the_line a b v m) in
     let f = h.0 in
-    (is_below a v (inr (sym e, o.0)), is_below v b (inr (omega zarith, o.1))))
+    (is_below a v (inr (sym e, o.0)), is_below v b (inr (omega (arith, ints), o.1))))
 
 -- THE LINE: the test of strictly inside, by point order, decides strictly inside
 pub inside_decides : (a b v : Point) → a ≢ b → (inside a b v ≡ true) ↔ Inside a b v

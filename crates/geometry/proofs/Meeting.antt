@@ -5,7 +5,8 @@ use mathlib.Core.List.{[], ◌∷◌}
 use mathlib.Core.Logic.{◌⊎◌, inl, inr, ◌≢◌, ◌↔◌}
 use lib.IntN.{ℤ, pos, negsuc, ◌+ℤ◌, ◌-ℤ◌, ◌*ℤ◌}
 use lib.Signed.{lt_z, ◌≤ℤ◌, ◌<ℤ◌}
-use Rattle.algebra.specs.Linear.{zarith, add, sub}
+use borrow.Author.Differences.{ints}
+use native.Mathlib.Omega.{arith}
 use Rattle.algebra.specs.Polynomials.{lit, ◌:+◌, ◌:-◌, ◌:*◌, neg, hyp, sub_zero}
 use Rattle.algebra.specs.Identities.{ident, follows, num, pair, ◌:=◌, ◌⇐◌}
 use Rattle.algebra.specs.Order.{mul_pos, mul_nonneg, <ℤ-le}
@@ -16,7 +17,7 @@ use Rattle.geometry.specs.Plane.{Point, turn, eq_point, lt_point, min_point, col
 use Rattle.geometry.proofs.Points.{eq_point_true, zero_yes, zero_is, point_eq, below_is, not_below, lt_point_flip, lt_point_total, three, turn_first, turn_second}
 use Rattle.geometry.specs.Segment.{CommonPlace, way, Ends, StandsAt, Meet, same_side, shared, meets}
 use Rattle.geometry.proofs.Lines.{gap_pos, gap_le, same_x, same_y}
-use Rattle.algebra.specs.Cases.{is_T, and_left, and_right, both, true_or_false, never, or_cases}
+use Rattle.algebra.specs.Cases.{and_left, and_right, both, true_or_false, never, or_cases}
 use Rattle.geometry.proofs.Crossing.{crossing, a_b, a_b', a'_b, a'_b'}
 use Rattle.geometry.proofs.Symmetry.{meets_rev, meets_rev₂, meets_swap}
 
@@ -54,8 +55,8 @@ meet_mir a a' b b' m = record { place = unmirror m.place; no_vertex = λ v p q h
 side_cases : (p q : ℤ) → same_side p q ≡ true → ((pos 0 <ℤ p) × (pos 0 <ℤ q)) ⊎ ((p <ℤ pos 0) × (q <ℤ pos 0))
 side_cases p q h =
     both (or_cases (lt_z (pos 0) p && lt_z (pos 0) q) _ h)
-    (λ g. inl (record { lt = is_T _ (and_left (lt_z (pos 0) p) _ g) }, record { lt = is_T _ (and_right (lt_z (pos 0) p) _ g) }))
-    (λ g. inr (record { lt = is_T _ (and_left (lt_z p (pos 0)) _ g) }, record { lt = is_T _ (and_right (lt_z p (pos 0)) _ g) }))
+    (λ g. inl (omega (arith, ints, and_left (lt_z (pos 0) p) _ g), omega (arith, ints, and_right (lt_z (pos 0) p) _ g)))
+    (λ g. inr (omega (arith, ints, and_left (lt_z p (pos 0)) _ g), omega (arith, ints, and_right (lt_z p (pos 0)) _ g)))
 
 module _ {a a' b b' : Point} (m : CommonPlace a a' b b') where
   not_one_side : same_side (turn a a' b) (turn a a' b') ≡ false
@@ -134,7 +135,7 @@ module _ (a a' b b' : Point) (nf : (collinear a a' b && collinear a a' b') ≡ f
 
 -- ---- on one line, which is not upright: by the x of its points
 le_sum : (x y z w : ℤ) → w ≡ x +ℤ (y +ℤ z) → pos 0 ≤ℤ y → pos 0 ≤ℤ z → x ≤ℤ w
-le_sum x y z w e h k = omega (zarith, add x (y +ℤ z), add y z)
+le_sum x y z w e h k = omega (arith, ints)
 
 -- u lies behind a, which is not before b, and is past no end: the two meet in the middle of a and u
 module _ (a a' b b' u : Point) (la : a.x <ℤ a'.x) (lb : b.x <ℤ b'.x) (lu : a.x <ℤ u.x) (ba : b.x ≤ℤ a.x) (ua : u.x ≤ℤ a'.x) (ub : u.x ≤ℤ b'.x)
@@ -155,7 +156,7 @@ module _ (a a' b b' u : Point) (la : a.x <ℤ a'.x) (lb : b.x <ℤ b'.x) (lu : a
   D = A *ℤ B +ℤ A *ℤ B
 
   D> : pos 0 <ℤ D
-  D> = let z = mul_pos A> B> in omega (zarith, add (A *ℤ B) (A *ℤ B))
+  D> = let z = mul_pos A> B> in omega (arith, ints)
 
   abbrev S : ℤ
   S = (u.x -ℤ a.x) *ℤ B
@@ -170,13 +171,13 @@ module _ (a a' b b' u : Point) (la : a.x <ℤ a'.x) (lb : b.x <ℤ b'.x) (lu : a
   W = (a.x -ℤ b.x) +ℤ (u.x -ℤ b.x)
 
   W≥ : pos 0 ≤ℤ W
-  W≥ = omega (zarith, add (a.x -ℤ b.x) (u.x -ℤ b.x), sub a.x b.x, sub u.x b.x)
+  W≥ = omega (arith, ints)
 
   W≤ : (W *ℤ A) ≤ℤ D
   W≤ =
       le_sum (W *ℤ A) ((b'.x -ℤ a.x) *ℤ A) ((b'.x -ℤ u.x) *ℤ A) D
       (ident (num ∷ num ∷ num ∷ num ∷ num ∷ []) (λ a b b' u A. A :* (b' :- b) :+ A :* (b' :- b) := ((a :- b) :+ (u :- b)) :* A :+ ((b' :- a) :* A :+ (b' :- u) :* A)) tt a.x b.x b'.x u.x A)
-      (mul_nonneg (gap_le a.x b'.x (omega zarith)) (<ℤ-le A>)) (mul_nonneg (gap_le u.x b'.x ub) (<ℤ-le A>))
+      (mul_nonneg (gap_le a.x b'.x (omega (arith, ints))) (<ℤ-le A>)) (mul_nonneg (gap_le u.x b'.x ub) (<ℤ-le A>))
 
   middle : CommonPlace a a' b b'
   middle = record {
@@ -215,13 +216,13 @@ module _ (a a' b b' u : Point) (la : a.x <ℤ a'.x) (lb : b.x <ℤ b'.x) (lu : a
           (hyp (lit (pos 1)) (((a' :- a) :* B :+ (a' :- a) :* B) :* v) (way_of_edge ((a' :- a) :* B :+ (a' :- a) :* B) ((u :- a) :* B) a a') ∷ [])) tt
 
       off : (v : Point) → Ends v a a' → (v.x -ℤ a.x) +ℤ (v.x -ℤ u.x) ≡ pos 0 → ⊥
-      off v (inl e) z = let w = ap (λ (p : Point). p.x) e in omega (zarith, add (v.x -ℤ a.x) (v.x -ℤ u.x), sub v.x a.x, sub v.x u.x)
-      off v (inr e) z = let w = ap (λ (p : Point). p.x) e in omega (zarith, add (v.x -ℤ a.x) (v.x -ℤ u.x), sub v.x a.x, sub v.x u.x)
+      off v (inl e) z = let w = ap (λ (p : Point). p.x) e in omega (arith, ints)
+      off v (inr e) z = let w = ap (λ (p : Point). p.x) e in omega (arith, ints)
 
       apart : (v : Point) → Ends v a a' → D *ℤ v.x ≡ way D S a.x a'.x → ⊥
       apart v p h =
           both (no_zero (A *ℤ B) _ (twice v.x a.x a'.x B u.x h))
-          (λ z. (let w = mul_pos A> B> in omega zarith))
+          (λ z. (let w = mul_pos A> B> in omega (arith, ints)))
           (off v p)
 
 -- b ends before a begins: they meet nowhere but in a shared end
@@ -235,13 +236,13 @@ module _ (a a' b b' : Point) (la : a.x <ℤ a'.x) (lb : b.x <ℤ b'.x) (le : b'.
       let q = mul_nonneg m.place.s≥ (<ℤ-le (gap_pos a.x a'.x la)) in
       let o = mul_nonneg (gap_le t d m.place.t≤) (<ℤ-le (gap_pos b.x b'.x lb)) in
       let e = sum d s t a.x a'.x b.x b'.x m.place.at_x in
-      let e₁ : d *ℤ (a.x -ℤ b'.x) ≡ pos 0 = omega (zarith, add (d *ℤ (a.x -ℤ b'.x)) (s *ℤ (a'.x -ℤ a.x) +ℤ (d -ℤ t) *ℤ (b'.x -ℤ b.x)), add (s *ℤ (a'.x -ℤ a.x)) ((d -ℤ t) *ℤ (b'.x -ℤ b.x))) in
-      let e₂ : s *ℤ (a'.x -ℤ a.x) ≡ pos 0 = omega (zarith, add (d *ℤ (a.x -ℤ b'.x)) (s *ℤ (a'.x -ℤ a.x) +ℤ (d -ℤ t) *ℤ (b'.x -ℤ b.x)), add (s *ℤ (a'.x -ℤ a.x)) ((d -ℤ t) *ℤ (b'.x -ℤ b.x))) in
-      both (no_zero d (a.x -ℤ b'.x) e₁) (λ k. let f = m.place.d> in omega zarith)
+      let e₁ : d *ℤ (a.x -ℤ b'.x) ≡ pos 0 = omega (arith, ints) in
+      let e₂ : s *ℤ (a'.x -ℤ a.x) ≡ pos 0 = omega (arith, ints) in
+      both (no_zero d (a.x -ℤ b'.x) e₁) (λ k. let f = m.place.d> in omega (arith, ints))
       (λ k. both (no_zero s (a'.x -ℤ a.x) e₂)
       (λ j. let ex = sub_zero a.x b'.x k in
       m.no_vertex a (inl refl) (inr (point_eq a b' ex (same_y a a' b' la z ex))) (start d s a.x a'.x j, start d s a.y a'.y j))
-      (λ j. omega (zarith, sub a'.x a.x)))
+      (λ j. omega (arith, ints)))
     where
       sum : (d s t a a' b b' : ℤ) → way d s a a' ≡ way d t b b' → d *ℤ (a -ℤ b') +ℤ (s *ℤ (a' -ℤ a) +ℤ (d -ℤ t) *ℤ (b' -ℤ b)) ≡ pos 0
       sum = follows (num ∷ num ∷ num ∷ num ∷ num ∷ num ∷ num ∷ [])
@@ -258,10 +259,10 @@ lt_LeP : (a b : Point) → lt_point a b ≡ true → LeP a b
 lt_LeP a b h = both (below_is a b h) (λ g. inl g) (λ g. inr (g.0, <ℤ-le g.1))
 
 x_le : (p q : Point) → LeP p q → p.x ≤ℤ q.x
-x_le p q h = both h <ℤ-le (λ g. (let e = g.0 in omega zarith))
+x_le p q h = both h <ℤ-le (λ g. (let e = g.0 in omega (arith, ints)))
 
 y_le : (p q : Point) → LeP p q → p.x ≡ q.x → p.y ≤ℤ q.y
-y_le p q h e = both h (λ g. absurd (omega zarith)) (λ g. g.1)
+y_le p q h e = both h (λ g. absurd (omega (arith, ints))) (λ g. g.1)
 
 module _ (a a' b b' : Point) (sa : lt_point a a' ≡ true) (sb : lt_point b b' ≡ true) (on : OnLine a a' b b') where
   -- the line is not upright, or it is
@@ -270,10 +271,10 @@ module _ (a a' b b' : Point) (sa : lt_point a a' ≡ true) (sb : lt_point b b' �
       both (below_is a a' sa)
       (λ h. both (below_is b b' sb)
       (λ g. inl (h, g))
-      (λ g. absurd (let e = same_x b b' a g.0 g.1 on.r0 in let e' = same_x b b' a' g.0 g.1 on.s0 in omega zarith)))
+      (λ g. absurd (let e = same_x b b' a g.0 g.1 on.r0 in let e' = same_x b b' a' g.0 g.1 on.s0 in omega (arith, ints))))
       (λ h. let e = same_x a a' b h.0 h.1 on.p0 in
       let e' = same_x a a' b' h.0 h.1 on.q0 in
-      both (below_is b b' sb) (λ g. absurd (omega zarith)) (λ g. inr (h.1, g.1, h.0)))
+      both (below_is b b' sb) (λ g. absurd (omega (arith, ints))) (λ g. inr (h.1, g.1, h.0)))
 
   module _ (ba : LeP b a) where
     -- u is the lesser of the greater ends
@@ -281,7 +282,7 @@ module _ (a a' b b' : Point) (sa : lt_point a a' ≡ true) (sb : lt_point b b' �
     overlap u ua ub zu zb lu =
         both lean
         (λ l. across a a' b b' u l.0 l.1
-        (both (below_is a u lu) (λ g. g) (λ g. absurd (let e = same_y a a' u l.0 zu g.0 in let f = g.1 in omega zarith)))
+        (both (below_is a u lu) (λ g. g) (λ g. absurd (let e = same_y a a' u l.0 zu g.0 in let f = g.1 in omega (arith, ints))))
         (x_le b a ba) (x_le u a' ua) (x_le u b' ub) zu on.r0 zb)
         (λ l. let eu = same_x a a' u l.2 l.0 zu in
         let eb = same_x a a' b l.2 l.0 on.p0 in
@@ -289,8 +290,8 @@ module _ (a a' b b' : Point) (sa : lt_point a a' ≡ true) (sb : lt_point b b' �
         let ea = l.2 in
         meet_mir a a' b b'
         (across (mir a) (mir a') (mir b) (mir b') (mir u) l.0 l.1
-        (both (below_is a u lu) (λ g. absurd (omega zarith)) (λ g. g.1))
-        (y_le b a ba eb) (y_le u a' ua (omega zarith)) (y_le u b' ub (omega zarith)) (turn_mir a a' u zu) (turn_mir b b' a on.r0) (turn_mir b b' u zb)))
+        (both (below_is a u lu) (λ g. absurd (omega (arith, ints))) (λ g. g.1))
+        (y_le b a ba eb) (y_le u a' ua (omega (arith, ints))) (y_le u b' ub (omega (arith, ints))) (turn_mir a a' u zu) (turn_mir b b' a on.r0) (turn_mir b b' u zb)))
 
     beyond : LeP b' a → Meet a a' b b' → ⊥
     beyond le m =
@@ -302,9 +303,9 @@ module _ (a a' b b' : Point) (sa : lt_point a a' ≡ true) (sb : lt_point b b' �
     lesser e =
         both (true_or_false (lt_point a' b'))
         (λ t. let f : meets a a' b b' ≡ lt_point a a' = rw t at e in
-        (λ h. overlap a' (inr (refl, omega zarith)) (lt_LeP a' b' t) (turn_second a a') on.s0 sa, λ m. f ∙ sa))
+        (λ h. overlap a' (inr (refl, omega (arith, ints))) (lt_LeP a' b' t) (turn_second a a') on.s0 sa, λ m. f ∙ sa))
         (λ t. let f : meets a a' b b' ≡ lt_point a b' = rw t at e in (
-          λ h. overlap b' (not_below a' b' t) (inr (refl, omega zarith)) on.q0 (turn_second b b') (sym f ∙ h),
+          λ h. overlap b' (not_below a' b' t) (inr (refl, omega (arith, ints))) on.q0 (turn_second b b') (sym f ∙ h),
           λ m. both (true_or_false (lt_point a b')) (λ g. f ∙ g) (λ g. absurd (beyond (not_below a b' g) m)),
         ))
 

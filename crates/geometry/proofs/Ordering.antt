@@ -2,12 +2,11 @@
 use mathlib.Core.Path.{◌≡◌, sym, ◌∙◌, ap, ap₂}
 use mathlib.Core.Bool.{Bool, true, false, ◌&&◌, ◌||◌, or_comm, or-false, and-true}
 use mathlib.Core.Logic.{◌⊎◌, ◌≢◌}
-use Prim.Native.Nat.{◌+◌, ◌*◌, ◌≤◌}
+use Prim.Native.Nat.{◌+◌, ◌≤◌}
 use native.Mathlib.Omega.{arith}
 use lib.IntN.{ℤ, pos, negsuc}
 use lib.Signed.{lt_z, ◌≤ℤ◌, ◌<ℤ◌}
-use Rattle.algebra.specs.Integers.{P, N, Is, is_self, is_cast, is_add, is_mul}
-use Rattle.algebra.specs.Order.{le_down, le_up, lt_down, lt_up}
+use borrow.Author.Differences.{up, down, ints}
 use Rattle.algebra.specs.Cases.{both, true_or_false, never, and_left, and_right}
 use Rattle.geometry.specs.Plane.{Point, Before, near, lt_point, min_point, max_point}
 use Rattle.geometry.specs.Segment.{overlap}
@@ -16,38 +15,23 @@ use Rattle.geometry.proofs.Points.{lt_int_cases, below_is, lt_point_trans, lt_po
 use Rattle.geometry.proofs.Reading.{abs_near}
 
 -- ---- the number
-key_is : (a : Point) → Is (order_key a) (P a.x * 4294967296 + P a.y) (N a.x * 4294967296 + N a.y)
-key_is a = is_add (is_cast (is_mul (is_self a.x) (is_self (pos 4294967296))) (omega arith)) (is_self a.y)
-
-near_up : (z : ℤ) → near z ≡ true → P z ≤ 1000000000
-near_up (pos n) e = omega (arith, abs_near (pos n) e)
-near_up (negsuc n) e = omega arith
-
-near_down : (z : ℤ) → near z ≡ true → N z ≤ 1000000000
-near_down (pos n) e = omega arith
-near_down (negsuc n) e = omega (arith, abs_near (negsuc n) e)
+near_is : (z : ℤ) → near z ≡ true → (up z ≤ down z + 1000000000) × (down z ≤ up z + 1000000000)
+near_is (pos n) e = omega (arith, abs_near (pos n) e)
+near_is (negsuc n) e = omega (arith, abs_near (negsuc n) e)
 
 module _ (a b : Point) (ha : InRange a) (hb : InRange b) where
   key_less : Before a b → order_key a <ℤ order_key b
-  key_less h =
-      lt_up _ _
-      (both h
-      (λ k. omega (arith, (key_is a).is, (key_is b).is, lt_down k, near_up a.y ha.ny, near_down a.y ha.ny, near_up b.y hb.ny, near_down b.y hb.ny))
-      (λ k. omega (arith, (key_is a).is, (key_is b).is, ap P k.0, ap N k.0, lt_down k.1)))
+  key_less h = both h (λ k. omega (arith, ints, near_is a.y ha.ny, near_is b.y hb.ny)) (λ k. omega (arith, ints))
 
   key_not : (b.x <ℤ a.x) ⊎ ((b.x ≡ a.x) × (b.y ≤ℤ a.y)) → order_key b ≤ℤ order_key a
-  key_not h =
-      le_up _ _
-      (both h
-      (λ k. omega (arith, (key_is a).is, (key_is b).is, lt_down k, near_up a.y ha.ny, near_down a.y ha.ny, near_up b.y hb.ny, near_down b.y hb.ny))
-      (λ k. omega (arith, (key_is a).is, (key_is b).is, ap P k.0, ap N k.0, le_down k.1)))
+  key_not h = both h (λ k. omega (arith, ints, near_is a.y ha.ny, near_is b.y hb.ny)) (λ k. omega (arith, ints))
 
   -- it orders as the points are ordered
   pub key_lt : lt_z (order_key a) (order_key b) ≡ lt_point a b
   key_lt =
       both (true_or_false (lt_point a b))
-      (λ t. both (lt_int_cases (order_key a) (order_key b)) (λ h. h.1 ∙ sym t) (λ h. absurd (omega (arith, lt_down (key_less (below_is a b t)), le_down h.0))))
-      (λ f. both (lt_int_cases (order_key a) (order_key b)) (λ h. absurd (omega (arith, lt_down h.0, le_down (key_not (not_below a b f))))) (λ h. h.1 ∙ sym f))
+      (λ t. both (lt_int_cases (order_key a) (order_key b)) (λ h. h.1 ∙ sym t) (λ h. absurd (omega (arith, ints, key_less (below_is a b t)))))
+      (λ f. both (lt_int_cases (order_key a) (order_key b)) (λ h. absurd (omega (arith, ints, key_not (not_below a b f)))) (λ h. h.1 ∙ sym f))
 
 -- ---- segments on one line
 not_round : (p q s : Point) → lt_point p s ≡ false → (lt_point p q && lt_point q s) ≡ false

@@ -1,17 +1,15 @@
 -- Where two segments have a place in common: from a place to the signs of four turns, and back. Then uncrossing, and the symmetries of a place.
-use mathlib.Core.Path.{◌≡◌, sym, ◌∙◌, ap}
+use mathlib.Core.Path.{◌≡◌, sym, ◌∙◌}
 use mathlib.Core.Logic.{⊎_elim, ◌≢◌}
 use mathlib.Core.List.{List, [], ◌∷◌}
-use Prim.Native.Nat.{◌+◌}
 use native.Mathlib.Omega.{arith}
 use lib.IntN.{ℤ, pos, negsuc, neg_ℤ, ◌+ℤ◌, ◌-ℤ◌, ◌*ℤ◌}
 use lib.Signed.{◌≤ℤ◌, ◌<ℤ◌}
-use Rattle.algebra.specs.Integers.{P, N}
 use Rattle.algebra.specs.Polynomials.{E, var, lit, ◌:+◌, ◌:-◌, ◌:*◌, neg, solve, lin, hyp, sub_zero}
-use Rattle.algebra.specs.Order.{le_down, le_up, lt_down, lt_up, eq_fact, le_by, lt_by, Sign, below, nul, above, sign, mul_nonneg, mul_pos, ≤ℤ-or-<, ≤ℤ-antisym, <ℤ-le}
+use Rattle.algebra.specs.Order.{Sign, below, nul, above, sign, mul_nonneg, mul_pos, ≤ℤ-or-<, <ℤ-le}
 use Rattle.algebra.specs.Signs.{flip, mul_mixed, mul_mixed', pos_le, neg_le, swap, no_zero, both_zero}
 use Rattle.algebra.specs.Identities.{PairE, ident, follows, num, pair, ◌:=◌, ◌⇐◌}
-use Rattle.algebra.specs.Linear.{zarith, sub}
+use borrow.Author.Differences.{ints}
 use Rattle.geometry.specs.Plane.{Point, turn}
 use Rattle.geometry.specs.Segment.{CommonPlace, way}
 use Rattle.geometry.proofs.Turns.{point_edge, turn_of_edge, A, B, C, D, pts, four}
@@ -35,19 +33,13 @@ mixed {a₁} {a₂} {b₁} {b₂} m =
 apart : (d t p q : ℤ) → pos 0 <ℤ d → pos 0 ≤ℤ t → t ≤ℤ d → pos 0 <ℤ p → pos 0 <ℤ q → (d -ℤ t) *ℤ p +ℤ t *ℤ q ≡ pos 0 → ⊥
 apart d t p q d> t≥ t≤ p> q> e = go (sign t)
   where
-    u : ℤ
-    u = d -ℤ t
-
     u≥ : pos 0 ≤ℤ (d -ℤ t)
-    u≥ = le_by (lit (pos 0)) (var 0 :- var 1) (d ∷ t ∷ []) (omega (arith, le_down t≤))
-
-    sum : P ((d -ℤ t) *ℤ p) + P (t *ℤ q) ≡ N ((d -ℤ t) *ℤ p) + N (t *ℤ q)
-    sum = omega (arith, eq_fact (var 0 :+ var 1) (lit (pos 0)) (((d -ℤ t) *ℤ p) ∷ (t *ℤ q) ∷ []) e)
+    u≥ = omega (arith, ints)
 
     go : Sign t → ⊥
-    go (below h) = omega (arith, le_down t≥, lt_down h)
-    go (above h) = omega (arith, sum, lt_down (mul_pos h q>), le_down (mul_nonneg u≥ (<ℤ-le p>)))
-    go (nul h) = omega (arith, sum, le_down (mul_nonneg t≥ (<ℤ-le q>)), lt_down (mul_pos (lt_by (lit (pos 0)) (var 0 :- var 1) (d ∷ t ∷ []) (omega (arith, lt_down d>, ap P h, ap N h))) p>))
+    go (below h) = omega (arith, ints)
+    go (above h) = omega (arith, ints, mul_pos h q>, mul_nonneg u≥ (<ℤ-le p>))
+    go (nul h) = let u> : pos 0 <ℤ (d -ℤ t) = omega (arith, ints) in omega (arith, ints, mul_nonneg t≥ (<ℤ-le q>), mul_pos u> p>)
 
 pub meets_not_above : {a₁ a₂ b₁ b₂ : Point} → CommonPlace a₁ a₂ b₁ b₂ → pos 0 <ℤ turn a₁ a₂ b₁ → pos 0 <ℤ turn a₁ a₂ b₂ → ⊥
 meets_not_above {a₁} {a₂} {b₁} {b₂} m p> q> = apart m.d m.t (turn a₁ a₂ b₁) (turn a₁ a₂ b₂) m.d> m.t≥ m.t≤ p> q> (mixed m)
@@ -62,7 +54,7 @@ opposite : (p q : ℤ) → (pos 0 <ℤ p → pos 0 <ℤ q → ⊥) → (p <ℤ p
 opposite p q f g = ⊎_elim (λ h. h) (λ h. absurd (go h (sign p) (sign q))) (≤ℤ-or-< (p *ℤ q) (pos 0))
   where
     none : (z : ℤ) → pos 0 <ℤ z → z ≡ pos 0 → ⊥
-    none z h e = omega (arith, lt_down h, ap P e)
+    none z h e = omega (arith, ints)
 
     go : pos 0 <ℤ (p *ℤ q) → Sign p → Sign q → ⊥
     go h (above j) (above k) = f j k
@@ -70,11 +62,8 @@ opposite p q f g = ⊎_elim (λ h. h) (λ h. absurd (go h (sign p) (sign q))) (�
     go h (nul j) k = none (p *ℤ q) h (lin (var 0 :* var 1) (lit (pos 0)) (p ∷ q ∷ []) (hyp (var 1) (var 0) (lit (pos 0)) ∷ []) tt j)
     go h (below j) (nul k) = none (p *ℤ q) h (lin (var 0 :* var 1) (lit (pos 0)) (p ∷ q ∷ []) (hyp (var 0) (var 1) (lit (pos 0)) ∷ []) tt k)
     go h (above j) (nul k) = none (p *ℤ q) h (lin (var 0 :* var 1) (lit (pos 0)) (p ∷ q ∷ []) (hyp (var 0) (var 1) (lit (pos 0)) ∷ []) tt k)
-    go h (below j) (above k) = omega (arith, lt_down h, le_down (neg_not j k))
-      where
-        neg_not : p <ℤ pos 0 → pos 0 <ℤ q → (p *ℤ q) ≤ℤ pos 0
-        neg_not j k = <ℤ-le (mul_mixed' j k)
-    go h (above j) (below k) = omega (arith, lt_down h, lt_down (mul_mixed j k))
+    go h (below j) (above k) = omega (arith, ints, mul_mixed' j k)
+    go h (above j) (below k) = omega (arith, ints, mul_mixed j k)
 
 pub meets_opposite : {a₁ a₂ b₁ b₂ : Point} → CommonPlace a₁ a₂ b₁ b₂ → (turn a₁ a₂ b₁ *ℤ turn a₁ a₂ b₂) ≤ℤ pos 0
 meets_opposite {a₁} {a₂} {b₁} {b₂} m = opposite (turn a₁ a₂ b₁) (turn a₁ a₂ b₂) (meets_not_above m) (meets_not_below m)
@@ -92,8 +81,8 @@ split_signs p q h lt = go (sign p)
   where
     go : Sign p → (pos 0 ≤ℤ p) × (q ≤ℤ pos 0)
     go (above k) = (<ℤ-le k, pos_le k h)
-    go (nul k) = (le_up (pos 0) p (omega (arith, ap P k, ap N k)), le_up q (pos 0) (omega (arith, lt_down lt, ap P k, ap N k)))
-    go (below k) = absurd (omega (arith, lt_down lt, lt_down k, le_down (neg_le k h)))
+    go (nul k) = (omega (arith, ints), omega (arith, ints))
+    go (below k) = absurd (omega (arith, ints, neg_le k h))
 
 module _ (a₁ a₂ b₁ b₂ : Point) (pq : (turn a₁ a₂ b₁ *ℤ turn a₁ a₂ b₂) ≤ℤ pos 0) (rs : (turn b₁ b₂ a₁ *ℤ turn b₁ b₂ a₂) ≤ℤ pos 0) where
   abbrev tp : ℤ
@@ -108,23 +97,23 @@ module _ (a₁ a₂ b₁ b₂ : Point) (pq : (turn a₁ a₂ b₁ *ℤ turn a₁
   abbrev ts : ℤ
   ts = turn b₁ b₂ a₂
 
-  nsum : P tp + P tr + (N tq + N ts) ≡ P tq + P ts + (N tp + N tr)
-  nsum = eq_fact (var 0 :+ var 2) (var 1 :+ var 3) (tp ∷ tq ∷ tr ∷ ts ∷ []) (four a₁ a₂ b₁ b₂)
+  sum : tp +ℤ tr ≡ tq +ℤ ts
+  sum = four a₁ a₂ b₁ b₂
 
   -- p above q
   down : tq <ℤ tp → CommonPlace a₁ a₂ b₁ b₂
   down lt =
       let k : (pos 0 ≤ℤ tp) × (tq ≤ℤ pos 0) = split_signs tp tq pq lt in
-      let j : (pos 0 ≤ℤ ts) × (tr ≤ℤ pos 0) = split_signs ts tr (swap tr ts (λ z. z ≤ℤ pos 0) rs) (lt_up tr ts (omega (arith, nsum, lt_down lt))) in
+      let j : (pos 0 ≤ℤ ts) × (tr ≤ℤ pos 0) = split_signs ts tr (swap tr ts (λ z. z ≤ℤ pos 0) rs) (omega (arith, ints, sum)) in
       record {
         d = tp -ℤ tq;
         s = neg_ℤ tr;
         t = tp;
-        d> = lt_by (lit (pos 0)) (var 0 :- var 1) (tp ∷ tq ∷ []) (omega (arith, lt_down lt));
-        s≥ = le_by (lit (pos 0)) (neg (var 0)) (tr ∷ []) (omega (arith, le_down j.1));
-        s≤ = le_by (neg (var 2)) (var 0 :- var 1) (tp ∷ tq ∷ tr ∷ []) (omega (arith, nsum, le_down j.0));
+        d> = omega (arith, ints);
+        s≥ = omega (arith, ints);
+        s≤ = omega (arith, ints, sum);
         t≥ = k.0;
-        t≤ = le_by (var 0) (var 0 :- var 1) (tp ∷ tq ∷ []) (omega (arith, le_down k.1));
+        t≤ = omega (arith, ints);
         at_x = cramer_x a₁ a₂ b₁ b₂;
         at_y = cramer_y a₁ a₂ b₁ b₂;
       }
@@ -133,25 +122,22 @@ module _ (a₁ a₂ b₁ b₂ : Point) (pq : (turn a₁ a₂ b₁ *ℤ turn a₁
   up : tp <ℤ tq → CommonPlace a₁ a₂ b₁ b₂
   up lt =
       let k : (pos 0 ≤ℤ tq) × (tp ≤ℤ pos 0) = split_signs tq tp (swap tp tq (λ z. z ≤ℤ pos 0) pq) lt in
-      let j : (pos 0 ≤ℤ tr) × (ts ≤ℤ pos 0) = split_signs tr ts rs (lt_up ts tr (omega (arith, nsum, lt_down lt))) in
+      let j : (pos 0 ≤ℤ tr) × (ts ≤ℤ pos 0) = split_signs tr ts rs (omega (arith, ints, sum)) in
       record {
         d = tq -ℤ tp;
         s = tr;
         t = neg_ℤ tp;
-        d> = lt_by (lit (pos 0)) (var 0 :- var 1) (tq ∷ tp ∷ []) (omega (arith, lt_down lt));
+        d> = omega (arith, ints);
         s≥ = j.0;
-        s≤ = le_by (var 2) (var 1 :- var 0) (tp ∷ tq ∷ tr ∷ []) (omega (arith, nsum, le_down j.1));
-        t≥ = le_by (lit (pos 0)) (neg (var 0)) (tp ∷ []) (omega (arith, le_down k.1));
-        t≤ = le_by (neg (var 1)) (var 0 :- var 1) (tq ∷ tp ∷ []) (omega (arith, le_down k.0));
+        s≤ = omega (arith, ints, sum);
+        t≥ = omega (arith, ints);
+        t≤ = omega (arith, ints);
         at_x = solve (way_of_edge (turn_of_edge A B D :- turn_of_edge A B C) (turn_of_edge C D A) (var 0) (var 2)) (way_of_edge (turn_of_edge A B D :- turn_of_edge A B C) (neg (turn_of_edge A B C)) (var 4) (var 6)) (pts a₁ a₂ b₁ b₂) tt;
         at_y = solve (way_of_edge (turn_of_edge A B D :- turn_of_edge A B C) (turn_of_edge C D A) (var 1) (var 3)) (way_of_edge (turn_of_edge A B D :- turn_of_edge A B C) (neg (turn_of_edge A B C)) (var 5) (var 7)) (pts a₁ a₂ b₁ b₂) tt;
       }
 
   pub meets_by_signs : tp ≢ tq → CommonPlace a₁ a₂ b₁ b₂
-  meets_by_signs ne = ⊎_elim (λ h. up (strict h)) (λ h. down h) (≤ℤ-or-< tp tq)
-    where
-      strict : tp ≤ℤ tq → tp <ℤ tq
-      strict h = ⊎_elim (λ k. absurd (ne (≤ℤ-antisym h k))) (λ k. k) (≤ℤ-or-< tq tp)
+  meets_by_signs ne = ⊎_elim (λ h. up (omega (arith, ints))) (λ h. down h) (≤ℤ-or-< tp tq)
 
 -- ---- collinear points
 abbrev O : PairE
@@ -198,13 +184,14 @@ module _ (a a' b b' : Point) where
   pub uncross : CommonPlace a a' b b' → b ≢ a' → a ≢ b' → CommonPlace a b a' b' → OnLine a a' b b'
   uncross m ne ne' m' = ⊎_elim left right (both_zero (turn a a' b) (turn a a' b') (turn b b' a) (turn b b' a') (four a a' b b') (meets_opposite m) (meets_opposite (meets_sym m)) pr qs)
     where
+      turned : {z w : ℤ} → w ≤ℤ pos 0 → w ≡ neg_ℤ z → pos 0 ≤ℤ z
+      turned h e = omega (arith, ints)
+
       pr : pos 0 ≤ℤ (turn a a' b *ℤ turn b b' a)
-      pr = le_by (lit (pos 0)) (var 0) ((turn a a' b *ℤ turn b b' a) ∷ (turn a b a' *ℤ turn a b b') ∷ [])
-          (omega (arith, le_down (meets_opposite m'), eq_fact (var 1) (neg (var 0)) ((turn a a' b *ℤ turn b b' a) ∷ (turn a b a' *ℤ turn a b b') ∷ []) (solve (turn_of_edge A C B :* turn_of_edge A C D) (neg (turn_of_edge A B C :* turn_of_edge C D A)) (pts a a' b b') tt)))
+      pr = turned (meets_opposite m') (solve (turn_of_edge A C B :* turn_of_edge A C D) (neg (turn_of_edge A B C :* turn_of_edge C D A)) (pts a a' b b') tt)
 
       qs : pos 0 ≤ℤ (turn a a' b' *ℤ turn b b' a')
-      qs = le_by (lit (pos 0)) (var 0) ((turn a a' b' *ℤ turn b b' a') ∷ (turn a' b' a *ℤ turn a' b' b) ∷ [])
-          (omega (arith, le_down (meets_opposite (meets_sym m')), eq_fact (var 1) (neg (var 0)) ((turn a a' b' *ℤ turn b b' a') ∷ (turn a' b' a *ℤ turn a' b' b) ∷ []) (solve (turn_of_edge B D A :* turn_of_edge B D C) (neg (turn_of_edge A B D :* turn_of_edge C D B)) (pts a a' b b') tt)))
+      qs = turned (meets_opposite (meets_sym m')) (solve (turn_of_edge B D A :* turn_of_edge B D C) (neg (turn_of_edge A B D :* turn_of_edge C D B)) (pts a a' b b') tt)
 
       left : (turn a a' b ≡ pos 0) × (turn b b' a' ≡ pos 0) → OnLine a a' b b'
       left h =
@@ -234,19 +221,13 @@ rev {a₁} {a₂} {b₁} {b₂} m = record {
   s = m.d -ℤ m.s;
   t = m.t;
   d> = m.d>;
-  s≥ = low m.d m.s m.s≤;
-  s≤ = high m.d m.s m.s≥;
+  s≥ = omega (arith, ints, m.s≤);
+  s≤ = omega (arith, ints, m.s≥);
   t≥ = m.t≥;
   t≤ = m.t≤;
   at_x = way_rev m.d m.s a₁.x a₂.x ∙ m.at_x;
   at_y = way_rev m.d m.s a₁.y a₂.y ∙ m.at_y;
 }
-  where
-    low : (d s : ℤ) → s ≤ℤ d → pos 0 ≤ℤ (d -ℤ s)
-    low d s h = omega (zarith, sub d s)
-
-    high : (d s : ℤ) → pos 0 ≤ℤ s → (d -ℤ s) ≤ℤ d
-    high d s h = omega (zarith, sub d s)
 
 pub turn_mir : (a b c : Point) → turn a b c ≡ pos 0 → turn (mir a) (mir b) (mir c) ≡ pos 0
 turn_mir = follows (pair ∷ pair ∷ pair ∷ []) (λ a b c. (turn_of_edge (record { ex = a.ey; ey = a.ex }) (record { ex = b.ey; ey = b.ex }) (record { ex = c.ey; ey = c.ex }) := lit (pos 0)) ⇐ (hyp (lit (negsuc 0)) (turn_of_edge a b c) (lit (pos 0)) ∷ [])) tt

@@ -1,27 +1,24 @@
 -- The tests of the plane as facts: zero, the order of points, strictly inside.
 use mathlib.Core.Path.{◌≡◌, refl, sym, ap, subst}
-use mathlib.Core.Bool.{Bool, true, false, not, ◌&&◌}
+use mathlib.Core.Bool.{Bool, true, false, ◌&&◌}
 use mathlib.Core.List.{[], ◌∷◌}
 use mathlib.Core.Logic.{◌⊎◌, inl, inr, ◌≢◌}
 use lib.IntN.{ℤ, pos, negsuc, ◌-ℤ◌, ◌*ℤ◌}
-use lib.Signed.{lt_z, ◌≤ℤ◌, ◌<ℤ◌, lt_z_no}
+use lib.Signed.{lt_z, ◌≤ℤ◌, ◌<ℤ◌}
 use borrow.Author.Tests.{eqb-true, eq-eqb}
-use Rattle.algebra.specs.Linear.{zarith}
+use borrow.Author.Differences.{ints}
+use native.Mathlib.Omega.{arith}
 use Rattle.algebra.specs.Polynomials.{lit, ◌:-◌, ◌:*◌, hyp, sub_zero}
 use Rattle.algebra.specs.Identities.{ident, follows, pair, ◌:=◌, ◌⇐◌}
 use Rattle.algebra.specs.Signs.{no_zero}
 use Rattle.geometry.proofs.Turns.{turn_of_edge}
 use Rattle.geometry.specs.Plane.{Point, turn, Before, is_zero, eq_int, eq_point, lt_point, min_point, max_point, collinear}
 use Rattle.geometry.specs.Segment.{inside}
-use Rattle.algebra.specs.Cases.{both, true_or_false, never, and_left, and_right, is_T}
+use Rattle.algebra.specs.Cases.{both, true_or_false, never, and_left, and_right}
 
 -- ---- numbers
 pub lt_int_cases : (a b : ℤ) → ((a <ℤ b) × (lt_z a b ≡ true)) ⊎ ((b ≤ℤ a) × (lt_z a b ≡ false))
-lt_int_cases a b = go (lt_z a b) refl
-  where
-    go : (t : Bool) → lt_z a b ≡ t → ((a <ℤ b) × (lt_z a b ≡ true)) ⊎ ((b ≤ℤ a) × (lt_z a b ≡ false))
-    go true e = inl (record { lt = is_T (lt_z a b) e }, e)
-    go false e = inr (lt_z_no (is_T (not (lt_z a b)) (rw e)), e)
+lt_int_cases a b = both (true_or_false (lt_z a b)) (λ e. inl (omega (arith, ints), e)) (λ e. inr (omega (arith, ints), e))
 
 pub eq_int_cases : (a b : ℤ) → ((a ≡ b) × (eq_int a b ≡ true)) ⊎ ((a ≢ b) × (eq_int a b ≡ false))
 eq_int_cases a b = go (eq_int a b) refl
@@ -56,6 +53,9 @@ eq_point_same a b e = both (eq_int_cases a.x b.x)
     (λ h. both (eq_int_cases a.y b.y) (λ g. rw (h.1, g.1)) (λ g. absurd (g.0 (ap (λ (p : Point). p.y) e))))
     (λ h. absurd (h.0 (ap (λ (p : Point). p.x) e)))
 
+pub points_differ : (a b : Point) → eq_point a b ≡ false → a ≢ b
+points_differ a b e f = never (eq_point a b) (eq_point_same a b f) e
+
 pub eq_point_true : (a b : Point) → eq_point a b ≡ true → a ≡ b
 eq_point_true a b t = both (eq_int_cases a.x b.x)
     (λ h. both (eq_int_cases a.y b.y) (λ g. point_eq a b h.0 g.0) (λ g. never (eq_point a b) t (rw (h.1, g.1))))
@@ -73,19 +73,19 @@ pub is_below : (a b : Point) → Before a b → lt_point a b ≡ true
 is_below a b h =
     both (lt_int_cases a.x b.x)
     (λ g. rw g.1)
-    (λ g. both h (λ k. absurd (omega zarith))
+    (λ g. both h (λ k. absurd (omega (arith, ints)))
     (λ k. both (eq_int_cases a.x b.x)
-    (λ f. both (lt_int_cases a.y b.y) (λ m. rw (g.1, f.1, m.1)) (λ m. absurd (omega zarith)))
+    (λ f. both (lt_int_cases a.y b.y) (λ m. rw (g.1, f.1, m.1)) (λ m. absurd (omega (arith, ints))))
     (λ f. absurd (f.0 k.0))))
 
 pub lt_point_trans : (a b c : Point) → lt_point a b ≡ true → lt_point b c ≡ true → lt_point a c ≡ true
 lt_point_trans a b c p q =
     is_below a c (both (below_is a b p)
-    (λ h. both (below_is b c q) (λ g. inl (omega zarith)) (λ g. inl (omega zarith)))
-    (λ h. both (below_is b c q) (λ g. inl (omega zarith)) (λ g. inr (omega zarith, omega zarith))))
+    (λ h. both (below_is b c q) (λ g. inl (omega (arith, ints))) (λ g. inl (omega (arith, ints))))
+    (λ h. both (below_is b c q) (λ g. inl (omega (arith, ints))) (λ g. inr (omega (arith, ints), omega (arith, ints)))))
 
 pub lt_point_not : (a b : Point) → lt_point a b ≡ true → lt_point b a ≡ true → ⊥
-lt_point_not a b p q = both (below_is a b p) (λ h. both (below_is b a q) (λ g. omega zarith) (λ g. omega zarith)) (λ h. both (below_is b a q) (λ g. omega zarith) (λ g. omega zarith))
+lt_point_not a b p q = both (below_is a b p) (λ h. both (below_is b a q) (λ g. omega (arith, ints)) (λ g. omega (arith, ints))) (λ h. both (below_is b a q) (λ g. omega (arith, ints)) (λ g. omega (arith, ints)))
 
 pub lt_point_irrefl : (a : Point) → lt_point a a ≡ true → ⊥
 lt_point_irrefl a p = lt_point_not a a p p
@@ -94,9 +94,9 @@ pub lt_point_total : (a b : Point) → a ≢ b → (lt_point a b ≡ true) ⊎ (
 lt_point_total a b ne =
     both (lt_int_cases a.x b.x) (λ h. inl (is_below a b (inl h.0)))
     (λ h. both (lt_int_cases b.x a.x) (λ g. inr (is_below b a (inl g.0)))
-    (λ g. let e : a.x ≡ b.x = omega zarith in
+    (λ g. let e : a.x ≡ b.x = omega (arith, ints) in
     both (lt_int_cases a.y b.y) (λ k. inl (is_below a b (inr (e, k.0))))
-    (λ k. both (lt_int_cases b.y a.y) (λ m. inr (is_below b a (inr (sym e, m.0)))) (λ m. absurd (ne (point_eq a b e (omega zarith)))))))
+    (λ k. both (lt_int_cases b.y a.y) (λ m. inr (is_below b a (inr (sym e, m.0)))) (λ m. absurd (ne (point_eq a b e (omega (arith, ints))))))))
 
 pub lt_point_flip : (a b : Point) → lt_point a b ≡ true → lt_point b a ≡ false
 lt_point_flip a b h = both (true_or_false (lt_point b a)) (λ g. absurd (lt_point_not a b h g)) (λ g. g)
@@ -155,20 +155,20 @@ not_below a b e =
     both (lt_int_cases a.x b.x)
     (λ h. never (lt_point a b) (is_below a b (inl h.0)) e)
     (λ h. both (lt_int_cases b.x a.x) (λ g. inl g.0)
-    (λ g. let q : a.x ≡ b.x = omega zarith in
+    (λ g. let q : a.x ≡ b.x = omega (arith, ints) in
     both (lt_int_cases a.y b.y) (λ k. never (lt_point a b) (is_below a b (inr (q, k.0))) e) (λ k. inr (sym q, k.0))))
 
 pub lt_le : (a b c : Point) → lt_point a b ≡ true → lt_point c b ≡ false → lt_point a c ≡ true
 lt_le a b c p q =
     is_below a c (both (below_is a b p)
-    (λ h. both (not_below c b q) (λ g. inl (omega zarith)) (λ g. inl (omega zarith)))
-    (λ h. both (not_below c b q) (λ g. inl (omega zarith)) (λ g. inr (omega zarith, omega zarith))))
+    (λ h. both (not_below c b q) (λ g. inl (omega (arith, ints))) (λ g. inl (omega (arith, ints))))
+    (λ h. both (not_below c b q) (λ g. inl (omega (arith, ints))) (λ g. inr (omega (arith, ints), omega (arith, ints)))))
 
 pub le_lt : (a b c : Point) → lt_point b a ≡ false → lt_point b c ≡ true → lt_point a c ≡ true
 le_lt a b c p q =
     is_below a c (both (not_below b a p)
-    (λ h. both (below_is b c q) (λ g. inl (omega zarith)) (λ g. inl (omega zarith)))
-    (λ h. both (below_is b c q) (λ g. inl (omega zarith)) (λ g. inr (omega zarith, omega zarith))))
+    (λ h. both (below_is b c q) (λ g. inl (omega (arith, ints))) (λ g. inl (omega (arith, ints))))
+    (λ h. both (below_is b c q) (λ g. inl (omega (arith, ints))) (λ g. inr (omega (arith, ints), omega (arith, ints)))))
 
 pub max_min : (a b c d : Point) → lt_point (max_point a b) (min_point c d) ≡ true → (lt_point a d ≡ true) × (lt_point b c ≡ true)
 max_min a b c d h =

@@ -1,27 +1,23 @@
 -- What the machine reads of a number is the number, where it fits: tests of bits are tests of numbers, and gaps, products and turns of
 -- points within the limits fit 64 bits.
-use mathlib.Core.Path.{◌≡◌, refl, sym, ◌∙◌, ap, ap₂}
+use mathlib.Core.Path.{◌≡◌, refl, ◌∙◌, ap₂}
 use mathlib.Core.Bool.{true}
 use mathlib.Core.List.{List}
 use Prim.Native.Nat.{ℕ, ◌^◌, ◌≤◌, ◌<◌}
 use native.Mathlib.Omega.{arith}
 use lib.Dec.{eqb}
-use lib.IntN.{ℤ, pos, negsuc, ◌+ℤ◌, ◌-ℤ◌, ◌*ℤ◌}
+use lib.IntN.{ℤ, pos, negsuc, ◌-ℤ◌, ◌*ℤ◌}
 use lib.Signed.{mag}
-use mir.Syntax.{Width, w32, w64}
+use mir.Syntax.{w32, w64}
 use mir.Val.{SFits, to_z, of_z}
 use mir.ValLaws.{to_z-of_z}
-use borrow.Author.Tests.{eq-eqb, ne_eqb, leb-true}
-use Rattle.algebra.specs.Size.{abs, abs_add, abs_sub, abs_mul, mul_bound, fits, fits_abs}
-use Rattle.algebra.specs.Cases.{both, and_left, and_right}
-use Rattle.geometry.specs.Plane.{Point, is_zero, eq_int, near, near_point}
+use borrow.Author.Tests.{ne_eqb, leb-true}
+use Rattle.algebra.specs.Size.{abs, abs_sub, abs_mul, mul_bound, fits}
+use Rattle.algebra.specs.Cases.{and_left, and_right}
+use Rattle.geometry.specs.Plane.{Point, is_zero, near, near_point}
 use Rattle.geometry.specs.Lent.{points, InRange, Here, Lent}
-use Rattle.geometry.proofs.Points.{eq_int_cases}
 
 -- ---- reading back
-pub widen : {z : ℤ} → SFits w32 z → SFits w64 z
-widen h = record { sfits = omega (arith, h.sfits) }
-
 -- a signed result of 64 bits is what it is read as
 pub read_64 : {z t : ℤ} → mag z < 2 ^ 63 → z ≡ t → to_z w64 (of_z w64 z) ≡ t
 read_64 {z} h e = to_z-of_z w64 z (record { sfits = h }) ∙ e
@@ -31,12 +27,6 @@ pub read_given : {z t : ℤ} → SFits w64 z → z ≡ t → to_z w64 (of_z w64 
 read_given {z} f e = to_z-of_z w64 z f ∙ e
 
 -- ---- tests of bits
-pub eq_bits : (w : Width) (a b : ℤ) → SFits w a → SFits w b → eqb (of_z w a) (of_z w b) ≡ eq_int a b
-eq_bits w a b f g =
-    both (eq_int_cases a b)
-    (λ h. rw h.1 (eq-eqb (of_z w a) (of_z w b) (ap (of_z w) h.0)))
-    (λ h. rw h.1 (ne_eqb (of_z w a) (of_z w b) (λ e. h.0 (sym (to_z-of_z w a f) ∙ ap (to_z w) e ∙ to_z-of_z w b g))))
-
 pub zero_bits : (a : ℤ) → SFits w64 a → eqb (of_z w64 a) 0 ≡ is_zero a
 zero_bits (pos n) f = refl
 zero_bits (negsuc n) f = ne_eqb (of_z w64 (negsuc n)) 0 (λ e. (let z = f.sfits in omega arith))
@@ -53,9 +43,6 @@ gap_near a b h k = omega (arith, abs_sub a b, abs_near a h, abs_near b k)
 pub fits64 : {z : ℤ} → abs z ≤ 8000000000000000000 → SFits w64 z
 fits64 {z} h = fits w64 z (omega arith)
 
-pub gap_fits : (a b : ℤ) → SFits w32 a → SFits w32 b → SFits w64 (a -ℤ b)
-gap_fits a b h k = fits64 (omega (arith, abs_sub a b, fits_abs w32 a h, fits_abs w32 b k))
-
 pub read_gap : {g a b : ℤ} → mag g < 2 ^ 63 → SFits w32 a → SFits w32 b → g ≡ to_z w32 (of_z w32 a) -ℤ to_z w32 (of_z w32 b) → to_z w64 (of_z w64 g) ≡ a -ℤ b
 read_gap {a = a} {b = b} h fa fb e = read_64 h (e ∙ ap₂ ◌-ℤ◌ (to_z-of_z w32 a fa) (to_z-of_z w32 b fb))
 
@@ -64,11 +51,6 @@ mul_fits u v h k = omega (arith, abs_mul u v, mul_bound (abs u) (abs v) 20000000
 
 pub cross_bound : (u v w z : ℤ) → abs u ≤ 2000000000 → abs v ≤ 2000000000 → abs w ≤ 2000000000 → abs z ≤ 2000000000 → abs (u *ℤ v -ℤ w *ℤ z) ≤ 8000000000000000000
 cross_bound u v w z hu hv hw hz = omega (arith, abs_sub (u *ℤ v) (w *ℤ z), mul_fits u v hu hv, mul_fits w z hw hz)
-
-pub joined_fits : (x y : ℤ) → abs x ≤ 1000000000 → abs y ≤ 1000000000 → (abs (x *ℤ pos 4294967296) ≤ 8000000000000000000) × (abs (x *ℤ pos 4294967296 +ℤ y) ≤ 8000000000000000000)
-joined_fits x y hx hy =
-    let m : abs (x *ℤ pos 4294967296) ≤ 4294967296000000000 = omega (arith, abs_mul x (pos 4294967296), mul_bound (abs x) (abs (pos 4294967296)) 1000000000 4294967296 hx (omega arith)) in
-    (omega arith, omega (arith, abs_add (x *ℤ pos 4294967296) y))
 
 -- ---- within the limits, as facts
 pub in_range_lem : (p : Point) → near_point p ≡ true → InRange p

@@ -7,7 +7,7 @@ use native.Mathlib.Omega.{arith}
 use lib.IntN.{ℤ, pos, negsuc, neg_ℤ}
 use lib.Signed.{lt_z}
 use borrow.Author.Tests.{lt-ltb, le-ltb, ne_eqb}
-use Rattle.algebra.specs.Linear.{zarith}
+use borrow.Author.Differences.{ints}
 use Rattle.geometry.proofs.Turns.{turn_swap}
 use Rattle.geometry.specs.Plane.{Point, turn, is_zero, eq_int, eq_point, lt_point, min_point, max_point, collinear}
 use Rattle.geometry.specs.Segment.{same_side, shared, meets}
@@ -18,8 +18,8 @@ use Rattle.algebra.specs.Cases.{and_left, and_right, both, true_or_false, same_t
 level : (a b : Point) → lt_point a b ≡ false → lt_point b a ≡ false → a ≡ b
 level a b p q =
     both (not_below a b p)
-    (λ h. both (not_below b a q) (λ g. absurd (omega zarith)) (λ g. absurd (omega zarith)))
-    (λ h. both (not_below b a q) (λ g. absurd (omega zarith)) (λ g. point_eq a b g.0 (omega zarith)))
+    (λ h. both (not_below b a q) (λ g. absurd (omega (arith, ints))) (λ g. absurd (omega (arith, ints))))
+    (λ h. both (not_below b a q) (λ g. absurd (omega (arith, ints))) (λ g. point_eq a b g.0 (omega (arith, ints))))
 
 pub min_point_comm : (a b : Point) → min_point a b ≡ min_point b a
 min_point_comm a b =

@@ -28,9 +28,6 @@ D = point_edge 6 7
 abbrev pub pts : Point → Point → Point → Point → List ℤ
 pts a b c d = a.x ∷ a.y ∷ b.x ∷ b.y ∷ c.x ∷ c.y ∷ d.x ∷ d.y ∷ []
 
-pub turn_cycle : (a b c : Point) → turn a b c ≡ turn b c a
-turn_cycle a b c = solve (turn_of_edge A B C) (turn_of_edge B C A) (pts a b c a) tt
-
 pub turn_swap : (a b c : Point) → turn a b c ≡ neg_ℤ (turn b a c)
 turn_swap a b c = solve (turn_of_edge A B C) (neg (turn_of_edge B A C)) (pts a b c a) tt
 

@@ -25,9 +25,9 @@ abbrev pub oriented_of : Result Orientation Refusal → Answer ℤ
 oriented_of (Ok o) = answered (turn_of o)
 oriented_of (Err r) = refused (number_of r)
 
-abbrev pub verdict_of : Result Bool Refusal → Answer Bool
-verdict_of (Ok holds) = answered holds
-verdict_of (Err r) = refused (number_of r)
+abbrev pub told : {A : Type 0} → Result A Refusal → Answer A
+told (Ok a) = answered a
+told (Err r) = refused (number_of r)
 
 -- an end's point, and its mark
 abbrev pub end_of : EndPoint → Point

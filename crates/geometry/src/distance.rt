@@ -2,9 +2,9 @@
 ghost use Rattle.std.specs.Prelude.{◌≡◌, ◌+◌, ◌*◌, ◌≤◌};
 ghost use Rattle.algebra.specs.Size.{abs};
 ghost use Rattle.geometry.specs.Plane.{squared_distance};
-ghost use Rattle.geometry.specs.Lent.{spot, InRange};
+ghost use Rattle.geometry.specs.Lent.{spot};
 
-use super::point::{Point, gap};
+use super::point::{NearPoint, gap};
 
 // Gaps of points within the limits are at most 2·10⁹, so that the squares and their sum fit.
 fn squares(dx: i64, dy: i64) -> u64
@@ -15,9 +15,9 @@ fn squares(dx: i64, dy: i64) -> u64
 }
 
 // dx×dx + dy×dy, at most 8·10¹⁸.
-pub fn squared_euclidean_distance(a: Point, b: Point) -> u64
-    requires { InRange (spot a) × InRange (spot b) }
-    ensures { result ≡ squared_distance (spot a) (spot b) }
+pub fn squared_euclidean_distance(a: NearPoint, b: NearPoint) -> u64
+    ensures { result ≡ squared_distance (spot a.point) (spot b.point) }
 {
+    let (a, b) = (a.point, b.point);
     squares(gap(a.x, b.x), gap(a.y, b.y))
 }

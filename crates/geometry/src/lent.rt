@@ -1,7 +1,7 @@
 // The points of a call.
 ghost use Rattle.geometry.specs.Lent.{Lent};
 
-use super::point::Point;
+use super::point::{NearPoint, Point};
 use index_edge::PointId;
 
 // The first n of the lent coordinates, all within the limits: point number i is at x[i], y[i].
@@ -15,7 +15,7 @@ pub struct Points<'a> {
 
 impl<'a> Points<'a> {
     ghost use Rattle.std.specs.Prelude.{◌≡◌, ◌<◌};
-    ghost use Rattle.geometry.specs.Lent.{spot, InRange};
+    ghost use Rattle.geometry.specs.Lent.{spot};
     ghost use Rattle.geometry.specs.Spots.{spots};
 
     // How many there are.
@@ -26,15 +26,15 @@ impl<'a> Points<'a> {
     }
 
     // The point of a number.
-    pub fn at(self, id: PointId) -> Point
+    pub fn at(self, id: PointId) -> NearPoint
         requires { id.0 < self.n }
-        ensures is { spot result ≡ spots self.entry id.0 }
-        ensures near { InRange (spot result) }
+        ensures { spot result.point ≡ spots self.entry id.0 }
     {
         let i = id.0 as usize;
-        Point {
+        let point = Point {
             x: self.x[i],
             y: self.y[i],
-        }
+        };
+        NearPoint { point }
     }
 }

@@ -5,10 +5,10 @@ ghost use Rattle.algebra.specs.Size.{abs};
 ghost use Rattle.geometry.specs.Plane.{turn};
 ghost use Rattle.geometry.specs.Segment.{is_open, admits, between, contains, inside, same_side, shared, overlap, meets};
 ghost use Rattle.geometry.specs.Lent.{spot, InRange};
-ghost use Rattle.geometry.specs.Answers.{verdict_of, end_of, mark_of, proper, containment, meeting};
+ghost use Rattle.geometry.specs.Answers.{told, end_of, mark_of, containment, meeting};
 
-use super::orientation::turn_of;
-use super::point::Point;
+use super::orientation::{is_colinear, turn_of};
+use super::point::{NearPoint, Point};
 use refusal::Refusal;
 
 // An end of a segment: an open one is itself left out.
@@ -48,13 +48,6 @@ impl EndPoint {
     }
 }
 
-// A segment of a public call has two different ends within the limits.
-fn is_proper(a: Point, b: Point) -> bool
-    ensures { result ≡ proper (spot a) (spot b) }
-{
-    (a.is_in_range() & b.is_in_range()) & (a != b)
-}
-
 // ---- contains
 
 fn between(a: Point, b: Point, p: Point) -> bool
@@ -64,23 +57,18 @@ fn between(a: Point, b: Point, p: Point) -> bool
 }
 
 impl LineSegment {
-    fn holds(self, p: Point) -> bool
-        requires { InRange (end_of self.min) × InRange (end_of self.max) × InRange (spot p) }
-        ensures { result ≡ contains (end_of self.min) (mark_of self.min) (end_of self.max) (mark_of self.max) (spot p) }
-    {
-        let a = self.min.inner();
-        let b = self.max.inner();
-        (turn_of(a, b, p) == 0) & (between(a, b, p) & (self.min.admits(p) & self.max.admits(p)))
-    }
-
     // Whether p lies on the segment, an open end left out (`LineSegmentView::contains`).
     pub fn contains(self, p: Point) -> Result<bool, Refusal>
-        ensures { verdict_of result ≡ containment (end_of self.min) (mark_of self.min) (end_of self.max) (mark_of self.max) (spot p) }
+        ensures { told result ≡ containment (end_of self.min) (mark_of self.min) (end_of self.max) (mark_of self.max) (spot p) }
     {
-        if !(is_proper(self.min.inner(), self.max.inner()) & p.is_in_range()) {
+        let a = NearPoint::try_from(self.min.inner())?;
+        let b = NearPoint::try_from(self.max.inner())?;
+        let v = NearPoint::try_from(p)?;
+        if a == b {
             return Err(Refusal::OutOfRange);
         }
-        Ok(self.holds(p))
+        let is_admitted = self.min.admits(p) & self.max.admits(p);
+        Ok(is_colinear(a, b, v) & (between(a.point, b.point, p) & is_admitted))
     }
 }
 
@@ -93,15 +81,14 @@ fn keys_between(a: i64, b: i64, v: i64) -> bool
     ((a < v) & (v < b)) | ((b < v) & (v < a))
 }
 
-pub fn is_inside(a: Point, b: Point, v: Point) -> bool
-    requires { InRange (spot a) × InRange (spot b) × InRange (spot v) }
-    ensures { result ≡ inside (spot a) (spot b) (spot v) }
+pub fn is_inside(a: NearPoint, b: NearPoint, v: NearPoint) -> bool
+    ensures { result ≡ inside (spot a.point) (spot b.point) (spot v.point) }
 {
     // The order is asked first: it takes no product, and seldom holds.
     if !keys_between(a.order_key(), b.order_key(), v.order_key()) {
         return false;
     }
-    turn_of(a, b, v) == 0
+    is_colinear(a, b, v)
 }
 
 // ---- meets
@@ -113,7 +100,7 @@ pub fn same_side(p: i64, q: i64) -> bool
     ((0 < p) & (0 < q)) | ((p < 0) & (q < 0))
 }
 
-// Two segments on one line have more than an end in common.
+// Two segments on one line have more than an end in common. Here and below a segment is its two points: the marks that a `LineSegment` carries play no part.
 fn overlap(a: Point, b: Point, c: Point, d: Point) -> bool
     ensures { result ≡ overlap (spot a) (spot b) (spot c) (spot d) }
 {
@@ -139,12 +126,20 @@ fn fourth(p: i64, q: i64, r: i64) -> i64
 // The rule, where the turns p and q of a, b to c and d are known, and whether an end is shared. On one line the order of the ends
 // decides, else the sides on which they lie: then segments that share an end meet nowhere else.
 #[inline]
-fn meet_by_turns(a: Point, b: Point, c: Point, d: Point, p: i64, q: i64, share: bool) -> bool
-    requires { InRange (spot a) × InRange (spot b) × InRange (spot c) × InRange (spot d) × (p ≡ turn (spot a) (spot b) (spot c)) × (q ≡ turn (spot a) (spot b) (spot d)) × (share ≡ shared (spot a) (spot b) (spot c) (spot d)) }
-    ensures { result ≡ meets (spot a) (spot b) (spot c) (spot d) }
+fn meet_by_turns(
+    a: NearPoint,
+    b: NearPoint,
+    c: NearPoint,
+    d: NearPoint,
+    p: i64,
+    q: i64,
+    share: bool,
+) -> bool
+    requires { (p ≡ turn (spot a.point) (spot b.point) (spot c.point)) × (q ≡ turn (spot a.point) (spot b.point) (spot d.point)) × (share ≡ shared (spot a.point) (spot b.point) (spot c.point) (spot d.point)) }
+    ensures { result ≡ meets (spot a.point) (spot b.point) (spot c.point) (spot d.point) }
 {
     if (p == 0) & (q == 0) {
-        return overlap(a, b, c, d);
+        return overlap(a.point, b.point, c.point, d.point);
     }
     let r = turn_of(c, d, a);
     let s = fourth(p, q, r);
@@ -152,40 +147,48 @@ fn meet_by_turns(a: Point, b: Point, c: Point, d: Point, p: i64, q: i64, share: 
 }
 
 // The segments a b and c d meet.
-fn segments_meet(a: Point, b: Point, c: Point, d: Point) -> bool
-    requires { InRange (spot a) × InRange (spot b) × InRange (spot c) × InRange (spot d) }
-    ensures { result ≡ meets (spot a) (spot b) (spot c) (spot d) }
+fn segments_meet(a: NearPoint, b: NearPoint, c: NearPoint, d: NearPoint) -> bool
+    ensures { result ≡ meets (spot a.point) (spot b.point) (spot c.point) (spot d.point) }
 {
     let p = turn_of(a, b, c);
     let q = turn_of(a, b, d);
-    meet_by_turns(a, b, c, d, p, q, share(a, b, c, d))
+    let share = share(a.point, b.point, c.point, d.point);
+    meet_by_turns(a, b, c, d, p, q, share)
 }
 
 impl LineSegment {
     // Two segments meet (`LineSegmentView::intersect`), where an end that they share is open in both, and no other. p and q are the turns of this one's ends
-    // to the other's: one who goes from segment to segment along a ring has the first of them already.
+    // to the other's: one who goes from segment to segment along a ring has the first of them already. The limits are required, since an end may be any point.
     pub fn intersects(self, other: LineSegment, p: i64, q: i64) -> bool
         requires { InRange (end_of self.min) × InRange (end_of self.max) × InRange (end_of other.min) × InRange (end_of other.max) × (p ≡ turn (end_of self.min) (end_of self.max) (end_of other.min)) × (q ≡ turn (end_of self.min) (end_of self.max) (end_of other.max)) × ((is_open (mark_of self.min) || is_open (mark_of self.max)) ≡ shared (end_of self.min) (end_of self.max) (end_of other.min) (end_of other.max)) }
         ensures { result ≡ meets (end_of self.min) (end_of self.max) (end_of other.min) (end_of other.max) }
     {
+        let a = NearPoint {
+            point: self.min.inner(),
+        };
+        let b = NearPoint {
+            point: self.max.inner(),
+        };
+        let c = NearPoint {
+            point: other.min.inner(),
+        };
+        let d = NearPoint {
+            point: other.max.inner(),
+        };
         let share = self.min.is_open() | self.max.is_open();
-        meet_by_turns(
-            self.min.inner(),
-            self.max.inner(),
-            other.min.inner(),
-            other.max.inner(),
-            p,
-            q,
-            share,
-        )
+        meet_by_turns(a, b, c, d, p, q, share)
     }
 }
 
 // Whether two segments meet elsewhere than in an end of both (`intersects` of two_opt.rs, with shared ends exclusive).
 pub fn meets(a1: Point, a2: Point, b1: Point, b2: Point) -> Result<bool, Refusal>
-    ensures { verdict_of result ≡ meeting (spot a1) (spot a2) (spot b1) (spot b2) }
+    ensures { told result ≡ meeting (spot a1) (spot a2) (spot b1) (spot b2) }
 {
-    if !(is_proper(a1, a2) & is_proper(b1, b2)) {
+    let a1 = NearPoint::try_from(a1)?;
+    let a2 = NearPoint::try_from(a2)?;
+    let b1 = NearPoint::try_from(b1)?;
+    let b2 = NearPoint::try_from(b2)?;
+    if (a1 == a2) | (b1 == b2) {
         return Err(Refusal::OutOfRange);
     }
     Ok(segments_meet(a1, a2, b1, b2))

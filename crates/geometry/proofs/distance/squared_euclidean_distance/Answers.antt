@@ -12,20 +12,20 @@ use Rattle.geometry.proofs.distance.squared_euclidean_distance.Goals as goal
 
 -- the two gaps, as the machine reads them
 module _ (c : goal.After-gap-2) where
-  dx : to_z w64 (of_z w64 c.gap.result) ≡ c.args.a.x -ℤ c.args.b.x
+  dx : to_z w64 (of_z w64 c.gap.result) ≡ c.args.a.point.x -ℤ c.args.b.point.x
   dx =
-      let h : SFits w32 c.args.a.x = search rules in
-      let k : SFits w32 c.args.b.x = search rules in
+      let h : SFits w32 c.args.a.point.x = search rules in
+      let k : SFits w32 c.args.b.point.x = search rules in
       read_gap c.gap.type_inv h k c.gap.ensures
 
-  dy : to_z w64 (of_z w64 c.gap-2.result) ≡ c.args.a.y -ℤ c.args.b.y
+  dy : to_z w64 (of_z w64 c.gap-2.result) ≡ c.args.a.point.y -ℤ c.args.b.point.y
   dy =
-      let h : SFits w32 c.args.a.y = search rules in
-      let k : SFits w32 c.args.b.y = search rules in
+      let h : SFits w32 c.args.a.point.y = search rules in
+      let k : SFits w32 c.args.b.point.y = search rules in
       read_gap c.gap-2.type_inv h k c.gap-2.ensures
 
 pub squares-requires : goal.squares-requires
-squares-requires c = let h = c.requires in (gap_x h.0 h.1 _ (dx c), gap_y h.0 h.1 _ (dy c))
+squares-requires c = let s = c.args in (gap_x s.a.near s.b.near _ (dx c), gap_y s.a.near s.b.near _ (dy c))
 
 pub returns : goal.returns
 unfolding squared_distance

@@ -10,20 +10,21 @@ use Rattle.geometry.proofs.line_segment.meet_by_turns.Goals as goal
 pub returns-then-p-q : goal.returns-then-p-q
 returns-then-p-q c =
     let s = c.args in
-    meets_on_line (spot s.a) (spot s.b) (spot s.c) (spot s.d) c.overlap.ensures (sym (on_line (spot s.a) (spot s.b) (spot s.c) (spot s.d) c.ranges.p c.ranges.q c.requires.4 c.requires.5) ∙ c.if-p-q.true)
+    meets_on_line (spot s.a.point) (spot s.b.point) (spot s.c.point) (spot s.d.point) c.overlap.ensures (sym (on_line (spot s.a.point) (spot s.b.point) (spot s.c.point) (spot s.d.point) c.ranges.p c.ranges.q c.requires.0 c.requires.1) ∙ c.if-p-q.true)
 
 pub fourth-s-requires : goal.fourth-s-requires
 fourth-s-requires c =
+    let s = c.args in
     let h = c.requires in
-    fourth_fits (h.0, h.1, h.2, h.3) (read_given c.ranges.p h.4) (read_given c.ranges.q h.5) (read_64 c.turn_of-r.type_inv c.turn_of-r.ensures)
+    fourth_fits (s.a.near, s.b.near, s.c.near, s.d.near) (read_given c.ranges.p h.0) (read_given c.ranges.q h.1) (read_64 c.turn_of-r.type_inv c.turn_of-r.ensures)
 
 pub returns : goal.returns
 returns c =
     let s = c.args in
     let h = c.requires in
-    let p = read_given c.ranges.p h.4 in
-    let q = read_given c.ranges.q h.5 in
+    let p = read_given c.ranges.p h.0 in
+    let q = read_given c.ranges.q h.1 in
     let r = read_64 c.turn_of-r.type_inv c.turn_of-r.ensures in
-    let t = read_64 c.fourth-s.type_inv (c.fourth-s.ensures ∙ fourth_is (h.0, h.1, h.2, h.3) p q r) in
-    ap₂ ◌&&◌ (ap not h.6) (ap₂ ◌&&◌ (ap not (c.same_side.ensures ∙ ap₂ same_side p q)) (ap not (c.same_side-2.ensures ∙ ap₂ same_side r t)))
-    ∙ meets_off_line (spot s.a) (spot s.b) (spot s.c) (spot s.d) (sym (on_line (spot s.a) (spot s.b) (spot s.c) (spot s.d) c.ranges.p c.ranges.q c.requires.4 c.requires.5) ∙ c.if-p-q.false)
+    let t = read_64 c.fourth-s.type_inv (c.fourth-s.ensures ∙ fourth_is (s.a.near, s.b.near, s.c.near, s.d.near) p q r) in
+    ap₂ ◌&&◌ (ap not h.2) (ap₂ ◌&&◌ (ap not (c.same_side.ensures ∙ ap₂ same_side p q)) (ap not (c.same_side-2.ensures ∙ ap₂ same_side r t)))
+    ∙ meets_off_line (spot s.a.point) (spot s.b.point) (spot s.c.point) (spot s.d.point) (sym (on_line (spot s.a.point) (spot s.b.point) (spot s.c.point) (spot s.d.point) c.ranges.p c.ranges.q c.requires.0 c.requires.1) ∙ c.if-p-q.false)

@@ -12,32 +12,32 @@ back z = to_z w64 (of_z w64 z)
 
 -- the four gaps, as the machine reads them
 module _ (c : goal.After-gap-vy) where
-  ux : back c.gap-ux.result ≡ c.args.b.x -ℤ c.args.a.x
+  ux : back c.gap-ux.result ≡ c.args.b.point.x -ℤ c.args.a.point.x
   ux =
-      let h : SFits w32 c.args.b.x = search rules in
-      let k : SFits w32 c.args.a.x = search rules in
+      let h : SFits w32 c.args.b.point.x = search rules in
+      let k : SFits w32 c.args.a.point.x = search rules in
       read_gap c.gap-ux.type_inv h k c.gap-ux.ensures
 
-  uy : back c.gap-uy.result ≡ c.args.b.y -ℤ c.args.a.y
+  uy : back c.gap-uy.result ≡ c.args.b.point.y -ℤ c.args.a.point.y
   uy =
-      let h : SFits w32 c.args.b.y = search rules in
-      let k : SFits w32 c.args.a.y = search rules in
+      let h : SFits w32 c.args.b.point.y = search rules in
+      let k : SFits w32 c.args.a.point.y = search rules in
       read_gap c.gap-uy.type_inv h k c.gap-uy.ensures
 
-  vx : back c.gap-vx.result ≡ c.args.c.x -ℤ c.args.a.x
+  vx : back c.gap-vx.result ≡ c.args.c.point.x -ℤ c.args.a.point.x
   vx =
-      let h : SFits w32 c.args.c.x = search rules in
-      let k : SFits w32 c.args.a.x = search rules in
+      let h : SFits w32 c.args.c.point.x = search rules in
+      let k : SFits w32 c.args.a.point.x = search rules in
       read_gap c.gap-vx.type_inv h k c.gap-vx.ensures
 
-  vy : back c.gap-vy.result ≡ c.args.c.y -ℤ c.args.a.y
+  vy : back c.gap-vy.result ≡ c.args.c.point.y -ℤ c.args.a.point.y
   vy =
-      let h : SFits w32 c.args.c.y = search rules in
-      let k : SFits w32 c.args.a.y = search rules in
+      let h : SFits w32 c.args.c.point.y = search rules in
+      let k : SFits w32 c.args.a.point.y = search rules in
       read_gap c.gap-vy.type_inv h k c.gap-vy.ensures
 
 pub cross-requires : goal.cross-requires
-cross-requires c = let h = c.requires in (gap_x h.1 h.0 _ (ux c), gap_y h.1 h.0 _ (uy c), gap_x h.2 h.0 _ (vx c), gap_y h.2 h.0 _ (vy c))
+cross-requires c = let s = c.args in (gap_x s.b.near s.a.near _ (ux c), gap_y s.b.near s.a.near _ (uy c), gap_x s.c.near s.a.near _ (vx c), gap_y s.c.near s.a.near _ (vy c))
 
 pub returns : goal.returns
 returns c = read_64 c.cross.type_inv (c.cross.ensures ∙ (λ i. ux c.before i *ℤ vy c.before i -ℤ uy c.before i *ℤ vx c.before i))
