@@ -1,6 +1,4 @@
 // A ring position together with the ring it walks (polygon.rs, `Cursor`).
-//
-// Callers that have a slice and a position apart use `point_after`.
 #![tactic(auto)]
 
 ghost use Rattle.std.specs.Prelude.{◌≡◌, ◌<◌, length};
@@ -44,7 +42,7 @@ impl<'a> Cursor<'a> {
     }
 }
 
-// The point after a position.
+// The point after a position, for whoever has the ring and the position apart.
 pub fn point_after(ring: &[u16], from: Position) -> PointId
     requires { (from.size ≡ length ring.now) × (from.id.0 < from.size) }
     ensures { result.0 ≡ at ring.now (next from.size from.id.0) }

@@ -9,6 +9,7 @@ use borrow.Author.Tests.{eqb-true, eqb-false, eq-eqb, ne_eqb}
 use lib.Dec.{eqb, ltb}
 use lib.ListN.{length, get_or, set, length-set, get_or-append}
 use lib.Seq.{get_or-set_same, get_or-set_other, get_or-append_seam}
+use Rattle.std.proofs.lemmas.Bool.{cond_both}
 use Rattle.algebra.specs.Cases.{both, true_or_false}
 use Rattle.algebra.specs.Counting.{one, count_p, one_le, count_at, count_snoc, length_snoc}
 use Rattle.index_edge.specs.Edge.{Edge, eq_edge, lt_edge}
@@ -97,10 +98,6 @@ long_link : (m n : ℕ) (e : Edge) (x : ℕ) (w : List Pair) (l : pool.Links) �
 unfolding link_front
 long_link m n e x w l h =
     record { heads = simp length-set h.heads; next = simp len_ends h.next; prev = simp len_ends h.prev }
-
-same_ends : {A : Type 0} (b : Bool) (v : A) → cond b v v ≡ v
-same_ends true v = refl
-same_ends false v = refl
 
 -- what is read along g of a slot with these edges and links
 abbrev linked_as : Edge → Pair → Ends → ℕ
@@ -196,7 +193,7 @@ module _ (n : ℕ) (p : Pool) (s : Store) (h : Stored n p s) (rep : lists n p s)
       let rep1 : Rep none (Placed n) s k = wrote_rep n p s h rep r xm new_slot in
       let long : Long (n * (n - 1)) l = long_cleared (n * (n - 1)) r.slot p.links (long_sized h.sizes) in
       let pv : (g : Edge) → k.prev g r.slot ≡ none
-      = λ g. rw (get_or-set_same p.links.prev r.slot (ends none none) no_ends (inside_of xm h.sizes.in_prev)) (same_ends (eq_edge g (end0 v r.slot)) none) in
+      = λ g. rw (get_or-set_same p.links.prev r.slot (ends none none) no_ends (inside_of xm h.sizes.in_prev)) (cond_both (eq_edge g (end0 v r.slot)) none none (λ x. x ≡ none) (λ _. refl) (λ _. refl)) in
       let near : (g : Edge) → Placed n g → k.head g ≢ none → Near n v g (k.head g) = λ g pg u. near_head n v s h.numbered h.room h.sound held1 k g (rep1 g pg) u in
       let other : (g : Edge) → Placed n g → k.head g ≢ none → k.head g ≢ r.slot
       = λ g pg u q.

@@ -8,6 +8,7 @@ use native.Mathlib.Omega.{arith}
 use borrow.Author.Tests.{eqb-true, eq-eqb, lt-ltb}
 use lib.Dec.{eqb, ltb}
 use lib.ListN.{length, get_or}
+use Rattle.std.proofs.lemmas.List.{nil_from_length}
 use Rattle.algebra.specs.Cases.{both, eq_cases, and_left, and_right}
 use Rattle.algebra.specs.Counting.{one, count_p, one_le, count_at, count_at_two, count_find, count_length, count_le, length_snoc}
 use Rattle.index_edge.specs.Edge.{Edge}
@@ -110,8 +111,4 @@ removal_falls e s = go (newest_from e 0 s.dense) (newest_is e 0 s.dense)
     go (at_place k r) t some = swap_remove_length s.dense k (omega arith)
 
 pub none_left : (e : Edge) (s : Store) → list_of e (remove_all e s).dense ≡ []
-none_left e s = go (list_of e (remove_all e s).dense) (list_length e (remove_all e s).dense ∙ remove_all_none e s)
-  where
-    go : (l : List Rec) → length l ≡ 0 → l ≡ []
-    go [] h = refl
-    go (r ∷ l) h = absurd (omega arith)
+none_left e s = nil_from_length (list_of e (remove_all e s).dense) (list_length e (remove_all e s).dense ∙ remove_all_none e s)

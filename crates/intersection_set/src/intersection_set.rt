@@ -12,7 +12,7 @@ ghost use Rattle.intersection_set.specs.Words.{packed, part0, part1, part2, part
 ghost use Rattle.intersection_set.specs.Pool.{Pool, edges_of, links_in, nexts_in, prevs_in, links_of, no_ends, counts_of, end0, end1, head_at, set_end, set_head, unlink_from, put_edges, put_ends, clear_ends, pool_push, pool_remove, lesser, greater};
 ghost use Rattle.intersection_set.specs.Within.{Proper, EndOk, HeadOk, UnlinkOk, Sized, PushOk, RemoveOk};
 ghost use Rattle.intersection_set.specs.Holds.{Holds, MayPush};
-ghost use Rattle.intersection_set.specs.Stored.{stored, Slot};
+ghost use Rattle.intersection_set.specs.Stored.{stored, goes_back, Slot};
 ghost use Rattle.intersection_set.specs.Set.{pool_in, buffers_in, SameBuffers, cleared};
 
 use crate::sparse_index::{NONE, SparseIndex};
@@ -111,51 +111,59 @@ fn neighbours_at(links: &[u64], i: usize) -> (Neighbours, Neighbours)
     )
 }
 
-// Where a word of links has a link of an end, the next one or, back, the previous one: a factor, so that no branch is taken on the end.
-fn link_unit(back: bool, first: bool) -> u64
-    ensures { result ≡ unit_of back first }
+// Which link of a record along an edge's list.
+#[derive(Clone, Copy)]
+enum Link {
+    Next,
+    Prev,
+}
+
+// What a link along the first or the second edge of a record counts by in its word: a factor, so that the word is changed without a branch.
+fn link_unit(link: Link, first: bool) -> u64
+    ensures { result ≡ unit_of (goes_back link) first }
 {
-    if back {
-        if first { 65536 } else { 281474976710656 }
-    } else {
-        if first { 1 } else { 4294967296 }
+    match (link, first) {
+        (Link::Next, true) => 1,
+        (Link::Prev, true) => 65536,
+        (Link::Next, false) => 4294967296,
+        (Link::Prev, false) => 281474976710656,
     }
 }
 
-// A word of links with one of them anew.
+// A word of links with one of them anew: `first` is what the comparison with the record's edge answers.
 #[tactic(auto, using(crate::proofs::Words::is_anew))]
-fn with_link(back: bool, first: bool, w: u64, v: u16) -> u64
-    ensures { result ≡ with_link back first w v }
+fn with_link(link: Link, first: bool, w: u64, v: u16) -> u64
+    ensures { result ≡ with_link (goes_back link) first w v }
 {
-    let unit = link_unit(back, first);
+    let unit = link_unit(link, first);
     w - (w / unit % 65536) * unit + (v as u64) * unit
 }
 
 // The helpers below take the slices that they need, not the set: what they leave as it was then needs no clause.
 
-// Sets the next or the previous link of the record s to v, in the end of s that is e (`IndexMut<IndexEdge>`). Nothing where s is no record.
+// Sets a link of the record s to v, along its edge e (`IndexMut<IndexEdge>`). Nothing where s is no record.
 #[tactic(auto, using(crate::proofs::Words::in_words), unfolding(crate::specs::Pool::set_end))]
 fn set_link(
-    back: bool,
+    link: Link,
     s: Option<SparseIndex>,
     e: IndexEdge,
     v: Option<SparseIndex>,
     links: &mut [u64],
     ends: &[u64],
 )
-    requires { EndOk (stored s) (edges_of ends.now) (map (links_in back) links.old) × Slot s }
-    ensures { (map (links_in back) links.new ≡ set_end (stored s) (edge_of e) (stored v) (edges_of ends.now) (map (links_in back) links.old))
-        × (map (links_in (not back)) links.new ≡ map (links_in (not back)) links.old) }
+    requires { EndOk (stored s) (edges_of ends.now) (map (links_in (goes_back link)) links.old) × Slot s }
+    ensures { (map (links_in (goes_back link)) links.new ≡ set_end (stored s) (edge_of e) (stored v) (edges_of ends.now) (map (links_in (goes_back link)) links.old))
+        × (map (links_in (not (goes_back link))) links.new ≡ map (links_in (not (goes_back link))) links.old) }
 {
     let Some(s) = s else {
         return;
     };
     let i = s.0 as usize;
     let first = e == edges_at(ends, i).min;
-    links[i] = with_link(back, first, links[i], SparseIndex::stored(v));
+    links[i] = with_link(link, first, links[i], SparseIndex::stored(v));
 }
 
-// s becomes the newest record of an edge; answers the one that was it.
+// s becomes the newest record of an edge; answers the one that was the newest.
 fn take_head(n: usize, e: IndexEdge, s: SparseIndex, heads: &mut [u16]) -> Option<SparseIndex>
     requires { HeadOk n (edge_of e) heads.old }
     ensures taken { (stored result ≡ head_at n (edge_of e) heads.old) × (heads.new ≡ set heads.old (head_place n (edge_of e)) s.0) }
@@ -222,12 +230,13 @@ fn unlink(
     ensures { links_of heads.new links.new ≡ unlink_from n (edge_of e) (stored gone.next) (stored gone.prev) (edges_of ends.now) (links_of heads.old links.old) }
 {
     set_head(n, e, gone, heads);
-    set_link(false, gone.prev, e, gone.next, links, ends);
-    set_link(true, gone.next, e, gone.prev, links, ends);
+    set_link(Link::Next, gone.prev, e, gone.next, links, ends);
+    set_link(Link::Prev, gone.next, e, gone.prev, links, ends);
 }
 
 // The records of a ring of `vertices` points, in lent buffers of n×(n-1) entries each. What they hold is a store of records (`Holds`). The slots' buffers
-// lie flat beside the others: with a struct for them inside this one, a caller's proof does not learn what its buffers hold afterwards.
+// lie flat beside the others: with a struct for them inside this one, a caller's proof does not learn what its buffers hold afterwards. Nor is the store a
+// field or a model of it: a ghost field is a proposition, and the ages of the records stand in no buffer.
 #[derive(Drop)]
 pub struct IndexIntersectionSet<'a> {
     pub vertices: usize,
@@ -292,8 +301,8 @@ impl<'a> IndexIntersectionSet<'a> {
         let ends = &mut *self.ends;
         let links = &mut *self.links;
         put_record(s, isect, next0, next1, ends, links);
-        set_link(true, next0, isect.min, Some(s), links, ends);
-        set_link(true, next1, isect.max, Some(s), links, ends);
+        set_link(Link::Prev, next0, isect.min, Some(s), links, ends);
+        set_link(Link::Prev, next1, isect.max, Some(s), links, ends);
     }
 
     // Removes a record: out of both edges' lists and the dense order, and its slot is free.
@@ -315,7 +324,7 @@ impl<'a> IndexIntersectionSet<'a> {
         unlink(n, isect.max, along_max, heads, links, ends);
     }
 
-    // Removes every record of an edge, newest first.
+    // Removes every record of an edge, newest first, until its list has none.
     pub fn remove_all(&mut self, e: IndexEdge)
         requires { Proper self.old.vertices (edge_of e) × ((s : Store) × Holds self.old.vertices (pool_in self.old) s) }
         ensures same { SameBuffers self.old self.new }

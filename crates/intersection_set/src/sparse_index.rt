@@ -15,20 +15,13 @@ impl SparseIndex {
     pub fn stored(slot: Option<SparseIndex>) -> u16
         ensures { result ≡ stored_as slot }
     {
-        match slot {
-            Some(s) => s.0,
-            None => NONE,
-        }
+        slot.map_or(NONE, |s| s.0)
     }
 
     // What a stored word says.
     pub fn read(word: u16) -> Option<SparseIndex>
         ensures { (stored_as result ≡ word) × Slot result }
     {
-        if word == NONE {
-            None
-        } else {
-            Some(SparseIndex(word))
-        }
+        (word != NONE).then_some(SparseIndex(word))
     }
 }

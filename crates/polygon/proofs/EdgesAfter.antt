@@ -16,9 +16,6 @@ pub record EdgesAfter (n : ℕ) (r r' : List ℕ) (cs ls : List Edge) : Type 0 w
   pub laid : (e : Edge) → edge_in e ls ≡ true → edge_in e (edges n r') ≡ true
   pub kept : (i : ℕ) → i < n → edge_in (edge_at n r i) cs ≡ false → edge_in (edge_at n r i) (edges n r') ≡ true
 
-and_not : (s t : Bool) → s ≡ true → t ≡ false → (s && not t) ≡ true
-and_not s t p q = rw (p, q)
-
 and_not_cases : (s t : Bool) → (s && not t) ≡ true → (s ≡ true) × (t ≡ false)
 and_not_cases true true e = never false e refl
 and_not_cases true false e = (refl, refl)
@@ -31,7 +28,7 @@ edges_after {n} {r} {r'} {cs} {ls} t e = same_test _ _ to from
     to m = let (i, l, p) = member_edge n r' e m in
         both (t.fore i l)
         (λ h. or_right (edge_in e (edges n r) && not (edge_in e cs)) (edge_in e ls) (rw p at h))
-        (λ h. rw (and_not (edge_in e (edges n r)) (edge_in e cs) (rw p at h.0) (rw p at h.1)))
+        (λ h. rw (rw p at h.0, rw p at h.1))
 
     from : ((edge_in e (edges n r) && not (edge_in e cs)) || edge_in e ls) ≡ true → edge_in e (edges n r') ≡ true
     from m =

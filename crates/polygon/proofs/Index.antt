@@ -91,15 +91,19 @@ pub first_indexed : (n : ℕ) → Indexed n (up_from 0 n) (up_from 0 n)
 first_indexed n = grind (arith, first_ring, up_from_length, list_at, up_from)
 
 -- ---- an edge's direction, read off the index: its points stand at a and b, and p is the place behind a
-module _ {n : ℕ} {r x : List ℕ} (k : Indexed n r x) (e : IndexEdge) (lo : e.min.0 < n) (hi : e.max.0 < n) {a b : ℕ} {p : Position} (ea : a ≡ at x e.min.0) (eb : b ≡ at x e.max.0) (ep : p ≡ position n (next n a)) where
-  direct_is : direct n r (edge_of e) ≡ cond (eqb p.id.0 b) a b
-  direct_is = rw (ep, ea, eb) (rw (index_place k e.min.0 lo, index_place k e.max.0 hi))
+module _ {n : ℕ} {r x : List ℕ} (k : Indexed n r x) where
+  pub place_lt : {q : Position} (v : ℕ) → v < n → q ≡ position n (at x v) → q.id.0 < q.size
+  place_lt v l h = rw h (index_lt k v l (λ i. at x v))
 
-  pub direct_first : eqb p.id.0 b ≡ true → a ≡ direct n r (edge_of e)
-  direct_first t = sym (direct_is ∙ ap (λ t. cond t a b) t)
+  module _ (e : IndexEdge) (lo : e.min.0 < n) (hi : e.max.0 < n) {a b p : Position} (ea : a ≡ position n (at x e.min.0)) (eb : b ≡ position n (at x e.max.0)) (ep : p ≡ position a.size (next a.size a.id.0)) where
+    direct_is : direct n r (edge_of e) ≡ cond (eqb p.id.0 b.id.0) (at x e.min.0) (at x e.max.0)
+    direct_is = rw (ep, ea, eb) (rw (index_place k e.min.0 lo, index_place k e.max.0 hi))
 
-  pub direct_second : eqb p.id.0 b ≡ false → b ≡ direct n r (edge_of e)
-  direct_second t = sym (direct_is ∙ ap (λ t. cond t a b) t)
+    pub direct_first : eqb p.id.0 b.id.0 ≡ true → a ≡ position n (direct n r (edge_of e))
+    direct_first t = ea ∙ ap (position n) (sym (direct_is ∙ ap (λ t. cond t (at x e.min.0) (at x e.max.0)) t))
+
+    pub direct_second : eqb p.id.0 b.id.0 ≡ false → b ≡ position n (direct n r (edge_of e))
+    direct_second t = eb ∙ ap (position n) (sym (direct_is ∙ ap (λ t. cond t (at x e.min.0) (at x e.max.0)) t))
 
 -- what the check of `direct` needs
-pub ruleset directing = (index_lt, direct_first, direct_second)
+pub ruleset directing = (direct_first, direct_second)

@@ -4,7 +4,7 @@ use mathlib.Core.Logic.{◌⊎◌, inl, inr, ◌≢◌}
 use Prim.Native.Nat.{ℕ, suc, ◌+◌, ◌≤◌, ◌<◌}
 use native.Mathlib.Omega.{arith}
 use borrow.Author.Tests.{le-leb, lt-leb, eq-eqb, ne_eqb}
-use Rattle.polygon.specs.Ring.{next, prev, dist, back, flip, slide}
+use Rattle.polygon.specs.Ring.{next, prev, dist, flip, slide}
 use Rattle.algebra.specs.Cases.{le_cases, eq_cases, both, four}
 
 -- ---- what each function is, with no subtraction
@@ -16,9 +16,6 @@ prev_cases n i l = grind arith
 
 pub dist_cases : (n p i : ℕ) → p < n → ((p ≤ i) × (dist n p i + p ≡ i)) ⊎ ((i < p) × (dist n p i + p ≡ i + n))
 dist_cases n p i l = grind arith
-
-pub back_lt : (n q k : ℕ) → q < n → k < n → back n q k < n
-back_lt n q k lq l = grind arith
 
 module _ (n i : ℕ) (l : i < n) where
   pub next_lt : next n i < n

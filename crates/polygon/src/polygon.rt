@@ -1,13 +1,13 @@
 // The ring and its position index (polygon.rs).
 //
-// `ring` and `index` are lent with exactly one entry for each point: a caller whose buffers are longer lends `&mut ring[0..n]`,
+// `ring` and `index` are lent with exactly one entry for each point: a caller whose buffers are longer lends `&mut ring[..n]`,
 // so that no entry past n can be read or written here.
 ghost use Rattle.std.specs.Prelude.{◌≡◌, ◌+◌, ◌<◌, ◌≤◌, length};
 ghost use Rattle.algebra.specs.Ranges.{up_from};
 ghost use Rattle.index_edge.specs.Number.{edge_of};
 ghost use Rattle.polygon.specs.Ring.{at, swap, reversed, joined, turned_round, index_of, IsRing, Indexed, IndexedBut, first_fault, each_once};
 ghost use Rattle.polygon.specs.Edges.{direct};
-ghost use Rattle.polygon.specs.Place.{position, Apart, fault_of};
+ghost use Rattle.polygon.specs.Place.{position, ApartOn, fault_of};
 
 use crate::position::{Position, PositionId};
 use index_edge::{IndexEdge, PointId};
@@ -20,29 +20,6 @@ pub fn position_to_point_id(ring: &[u16], position: PositionId) -> PointId
     ensures { result.0 ≡ at ring.now position.0 }
 {
     PointId(ring[position.0 as usize])
-}
-
-// The position of a point.
-fn point_id_to_position(index: &[u16], point: PointId) -> PositionId
-    requires { point.0 < length index.now }
-    ensures { result.0 ≡ at index.now point.0 }
-{
-    PositionId(index[point.0 as usize])
-}
-
-// The position at which an edge of the ring starts, found by the index: with it the edge has a direction.
-#[tactic(auto, using(crate::proofs::Index::directing))]
-pub fn direct(ring: &[u16], index: &[u16], edge: IndexEdge) -> PositionId
-    requires { Indexed (length ring.now) ring.now index.now × (length ring.now < 65536) × (edge.min.0 < length ring.now) × (edge.max.0 < length ring.now) }
-    ensures { result.0 ≡ direct (length ring.now) ring.now (edge_of edge) }
-{
-    let min = point_id_to_position(index, edge.min);
-    let max = point_id_to_position(index, edge.max);
-    let on = Position {
-        id: min,
-        size: ring.len() as u16,
-    };
-    if on.next().id == max { min } else { max }
 }
 
 // Where a ring is wrong: the first position whose entry is no point's number or names a point again; none where each point is named once.
@@ -77,6 +54,8 @@ pub fn each_once(ring: &[u16]) -> bool
 }
 
 // ---- what is written in ring and index
+//
+// Over the slices and not over a `Polygon`: between the two writes the index is not the ring's.
 
 // 0, 1, 2, ..
 #[tactic(auto, using(crate::proofs::Index::counted))]
@@ -99,8 +78,8 @@ fn index_part(ring: &[u16], index: &mut [u16], from: usize, to: usize)
     }
 }
 
-// The points at two positions change places, and the index with them. It is told their new places: by its own `swap`, which first asks which of
-// two places comes before the other, a reversal took three times as long.
+// The points at two positions change places, and the index with them. Its two entries are written: by the library's `swap` of them, which asks which of two
+// places comes first, a reversal took three times as long.
 fn swap_points(ring: &mut [u16], index: &mut [u16], pa: PositionId, pb: PositionId)
     requires { Indexed (length ring.old) ring.old index.old × (pa.0 < length ring.old) × (pb.0 < length ring.old) }
     ensures ring { ring.new ≡ swap ring.old pa.0 pb.0 }
@@ -179,43 +158,38 @@ impl<'a> Polygon<'a> {
         }
     }
 
-    // The point at a position.
-    pub fn position_to_point_id(&self, position: PositionId) -> PointId
-        requires { position.0 < length self.now.ring.now }
-        ensures { result.0 ≡ at self.now.ring.now position.0 }
-    {
-        position_to_point_id(self.ring, position)
-    }
-
     // The position of a point.
-    pub fn point_id_to_position(&self, point: PointId) -> PositionId
+    fn point_id_to_position(&self, point: PointId) -> Position
         requires { point.0 < length self.now.ring.now }
-        ensures { result.0 ≡ at self.now.index.now point.0 }
+        ensures { result ≡ position (length self.now.ring.now) (at self.now.index.now point.0) }
     {
-        point_id_to_position(self.index, point)
+        self.position(PositionId(self.index[point.0 as usize]))
     }
 
     // The position at which an edge of the ring starts: with it the edge has a direction.
+    #[tactic(auto, using(crate::proofs::Index::directing))]
     pub fn direct(&self, edge: IndexEdge) -> Position
         requires { (edge.min.0 < length self.now.ring.now) × (edge.max.0 < length self.now.ring.now) }
         ensures { result ≡ position (length self.now.ring.now) (direct (length self.now.ring.now) self.now.ring.now (edge_of edge)) }
     {
-        self.position(direct(self.ring, self.index, edge))
+        let min = self.point_id_to_position(edge.min);
+        let max = self.point_id_to_position(edge.max);
+        if min.next().id == max.id { min } else { max }
     }
 
     // Two points change places, and the index with them.
     fn swap_positions(&mut self, pa: Position, pb: Position)
-        requires { (pa.size ≡ length self.old.ring.now) × Apart pa pb }
+        requires { ApartOn self.old.ring.now pa pb }
         ensures same { SameLoans self.old self.new }
         ensures ring { self.new.ring.now ≡ swap self.old.ring.now pa.id.0 pb.id.0 }
     {
         swap_points(self.ring, self.index, pa.id, pb.id);
     }
 
-    // A stretch that may wrap: its ends are swapped, from the outside in, until they meet.
+    // A stretch that may wrap: its ends are swapped, from the outside in. As in the Rust it is their meeting that ends it, not a count.
     #[tactic(auto, using(crate::proofs::PositionLoops::reversing_steps))]
     fn reverse_around(&mut self, mut pt1: Position, mut pt2: Position)
-        requires { (pt1.size ≡ length self.old.ring.now) × Apart pt1 pt2 }
+        requires { ApartOn self.old.ring.now pt1 pt2 }
         ensures same { SameLoans self.old self.new }
         ensures ring { self.new.ring.now ≡ reversed (length self.old.ring.now) self.old.ring.now pt1.id.0 pt2.id.0 }
     {
@@ -236,7 +210,7 @@ impl<'a> Polygon<'a> {
     // For example: pt1, a, b, c, pt2 =>
     //              pt2, c, b, a, pt1
     pub fn vertices_reverse(&mut self, pt1: Position, pt2: Position)
-        requires { (pt1.size ≡ length self.old.ring.now) × Apart pt1 pt2 }
+        requires { ApartOn self.old.ring.now pt1 pt2 }
         ensures same { SameLoans self.old self.new }
         ensures ring { self.new.ring.now ≡ reversed (length self.old.ring.now) self.old.ring.now pt1.id.0 pt2.id.0 }
     {
@@ -247,10 +221,10 @@ impl<'a> Polygon<'a> {
         }
     }
 
-    // Moves the point at pt2 back until it stands right behind the one at pt1.
+    // Moves the point at pt2 back until it stands right behind the one at pt1. As in the Rust it is their meeting that ends it, not a count.
     #[tactic(auto, using(crate::proofs::PositionLoops::coming_steps))]
     pub fn vertices_join(&mut self, pt1: Position, mut pt2: Position)
-        requires { (pt1.size ≡ length self.old.ring.now) × Apart pt1 pt2 }
+        requires { ApartOn self.old.ring.now pt1 pt2 }
         ensures same { SameLoans self.old self.new }
         ensures ring { self.new.ring.now ≡ joined (length self.old.ring.now) self.old.ring.now pt1.id.0 pt2.id.0 }
     {

@@ -7,7 +7,8 @@ ghost use Rattle.polygon.specs.Place.{position};
 #[derive(Clone, Copy, Debug, PartialEq, Eq, PartialOrd, Ord)]
 pub struct PositionId(pub u16);
 
-// A ring position with the size of its ring, so that it can move on and back.
+// A ring position with the size of its ring, so that it can move on and back. That it is below the size is no invariant: the definitions make positions of
+// plain numbers (`position`), so that one equation says both fields.
 #[derive(Clone, Copy, Debug, PartialEq, Eq)]
 pub struct Position {
     pub id: PositionId,
@@ -41,7 +42,7 @@ impl Position {
         }
     }
 
-    // One place on, for whoever lends the position.
+    // One place on, in place: the form for a position that is lent.
     pub fn move_next(&mut self)
         requires { self.old.id.0 < self.old.size }
         ensures { self.new ≡ position self.old.size (next self.old.size self.old.id.0) }
@@ -58,7 +59,8 @@ impl Position {
     }
 }
 
-// The place after i, and before it, on a ring of n: for loops over places, which count from 0. By way of `Position` it would be two casts and a struct.
+// The place after i, and before it, on a ring of n: for loops over places, which count from 0. By way of `Position` it would be two casts and a struct, and no
+// ring of more than 65,535.
 pub fn next_place(n: usize, i: usize) -> usize
     requires { i < n }
     ensures { (result ≡ next n i) × (result < n) }
