@@ -4,7 +4,6 @@ use mathlib.Core.Bool.{Bool, true, false, not, beq}
 use mathlib.Core.List.{List, [], ◌∷◌, ◌++◌, append-nil}
 use Prim.Native.Nat.{ℕ, zero, suc, min, ◌+◌, ◌-◌, ◌≤◌, ◌<◌}
 use native.Mathlib.Omega.{arith}
-use native.Mathlib.Numerals.{add-one}
 use lib.ListN.{length, length-append}
 use Rattle.algebra.specs.Cases.{both, true_or_false, le_cases}
 use Rattle.std.specs.Prelude.{Option, None}
@@ -109,10 +108,6 @@ module _ (n : ℕ) (pt : ℕ → Point) (r : List ℕ) where
   -- ---- over the points of a run: a point is a kink by those that are carried past it
   pub kink_is : {i : ℕ} {b h a : Point} → Carried On n pt r i b h → a ≡ pt_at pt r (next n i) → not (inside b a h) ≡ kink_at n pt r i
   kink_is k f = λ t. not (inside (k.behind t) (f t) (k.here t))
-
-  -- its points, counted as the loop counts them
-  pub all_points : (ps : List ℕ) (s : Run) (b : Best) → over_kinks n pt r ps (stretch n s.from.id.0 (s.edges + 1)) b ≡ over_kinks n pt r ps (points_of n s) b
-  all_points ps s b = ap (λ m. over_kinks n pt r ps (stretch n s.from.id.0 m) b) (add-one s.edges)
 
   -- ---- all points of one run or of two
   pub one_run : (s : Run) {b : Best} → b ≡ over_kinks n pt r (run_edges n s (record { from = s.from; edges = 0 })) (points_of n s) (unfound s.edges) → mergable_of b.found ≡ search_edges n pt r (points_of n s) (edges_of n s)

@@ -10,7 +10,7 @@ use Rattle.polygon.specs.Ring.{next}
 use Rattle.polygon.specs.Place.{position}
 use Rattle.polygon.specs.declared.position.Position.{Position}
 use Rattle.machine.specs.Board.{pt_at}
-use Rattle.moves.specs.Walk.{ring_of, place_of, point_of, Moved, On}
+use Rattle.moves.specs.Walk.{ring_of, place_of, point_of, Moved}
 use Rattle.moves.specs.declared.vertex.Vertex.{Vertex}
 
 module _ {n i : ℕ} {q : Position} (e : q ≡ position n i) where
@@ -23,10 +23,6 @@ module _ {n i : ℕ} {q : Position} (e : q ≡ position n i) where
 -- the point that is read at a place that was moved to
 pub moved_point : {v w : Vertex} {i : ℕ} {a : Point} → Moved v i w → a ≡ pt_at (point_of w) (ring_of w) (place_of w) → a ≡ pt_at (point_of v) (ring_of v) i
 moved_point m e = e ∙ (λ t. pt_at (spots (m.points t)) (m.ring t).now (m.position t).id.0)
-
--- a place of the ring is a position of it
-pub its_place : (v : Vertex) → On v v.cursor.position
-its_place v = record { size = v.on_ring.1; below = v.on_ring.2 }
 
 -- the point that is read one place on from there
 pub moved_on : {v w u : Vertex} {i : ℕ} {a : Point} → Moved v i w → Moved w (next w.points.n (place_of w)) u → a ≡ pt_at (point_of u) (ring_of u) (place_of u) →

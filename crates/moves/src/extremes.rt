@@ -1,15 +1,12 @@
 // The run of an edge (two_opt.rs, `linear_extremes`): it stretches back and on past collinear vertices to a corner.
 ghost use Rattle.std.specs.Prelude.{◌≡◌, ◌<◌};
-ghost use Rattle.geometry.specs.Plane.{collinear};
-ghost use Rattle.geometry.specs.Lent.{spot, InRange};
 ghost use Rattle.polygon.specs.Place.{position};
 ghost use Rattle.polygon.specs.Ring.{dist};
 ghost use Rattle.moves.specs.Walk.{ring_of, place_of, point_of, Moved};
 ghost use Rattle.moves.specs.Runs.{step, opposite, corner, run_from};
 
 use super::vertex::Vertex;
-use geometry::orientation::turn_of;
-use geometry::point::Point;
+use geometry::orientation::is_colinear;
 use polygon::position::Position;
 
 // A stretch of the ring: where it starts, and how many edges it has.
@@ -47,15 +44,7 @@ impl Direction {
     }
 }
 
-// Three points within the limits lie on one line.
-fn on_line(a: Point, b: Point, c: Point) -> bool
-    requires { InRange (spot a) × InRange (spot b) × InRange (spot c) }
-    ensures { result ≡ collinear (spot a) (spot b) (spot c) }
-{
-    turn_of(a, b, c) == 0
-}
-
-// From a vertex to a corner. A walk of as many steps as there are points has met one. Each point is read once.
+// From a vertex to a corner. A walk of as many steps as there are points has met one, unless all points are on one line. Each point is read once.
 fn corner(start: Vertex<'_>, way: Direction) -> Position
     ensures { result ≡ position start.entry.points.n (corner way start.entry.points.n (point_of start.entry) start.entry.points.n (ring_of start.entry) (place_of start.entry)) }
 {
@@ -65,7 +54,7 @@ fn corner(start: Vertex<'_>, way: Direction) -> Position
     for _ in 0..start.points.n {
         let next = way.step(at);
         let ahead = next.point();
-        if !on_line(behind, here, ahead) {
+        if !is_colinear(behind, here, ahead) {
             return at.cursor.position;
         }
         behind = here;

@@ -1,21 +1,20 @@
-// A kink of the loop, with what every edge that is asked for it needs.
+// A kink of the loop, with what the search asks of it at every edge.
 ghost use Rattle.std.specs.Prelude.{◌≡◌};
-ghost use Rattle.geometry.specs.Lent.{spot, InRange, order_key};
+ghost use Rattle.geometry.specs.Lent.{spot, order_key};
 ghost use Rattle.machine.specs.Board.{pt_at};
 ghost use Rattle.moves.specs.Walk.{ring_of, place_of, point_of};
 
 use super::vertex::Vertex;
-use geometry::point::Point;
+use geometry::point::NearPoint;
 
-// A vertex that edges are asked for, with its point and the order key of that.
+// A vertex that an edge is searched for, with its point and that point's order key.
 #[derive(Clone, Copy)]
 pub struct Kink<'a> {
     pub vertex: Vertex<'a>,
-    pub point: Point,
+    pub point: NearPoint,
     pub key: i64,
-    pub ghost stands: { spot point ≡ pt_at (point_of vertex) (ring_of vertex) (place_of vertex) },
-    pub ghost near: { InRange (spot point) },
-    pub ghost keyed: { key ≡ order_key (spot point) },
+    pub ghost stands: { spot point.point ≡ pt_at (point_of vertex) (ring_of vertex) (place_of vertex) },
+    pub ghost keyed: { key ≡ order_key (spot point.point) },
 }
 
 impl<'a> Kink<'a> {
@@ -31,7 +30,7 @@ impl<'a> Kink<'a> {
 
     // The point at another vertex is below it in point order.
     pub fn is_above(self, at: Vertex<'_>) -> bool
-        ensures { result ≡ lt_point (pt_at (point_of at.entry) (ring_of at.entry) (place_of at.entry)) (spot self.entry.point) }
+        ensures { result ≡ lt_point (pt_at (point_of at.entry) (ring_of at.entry) (place_of at.entry)) (spot self.entry.point.point) }
     {
         at.point().order_key() < self.key
     }

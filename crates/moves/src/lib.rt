@@ -1,4 +1,4 @@
-// Which move a recorded crossing calls for: what of two_opt.rs reads the points and the ring, and not the records.
+// Which move a recorded crossing calls for: the part of two_opt.rs that reads points and ring, and no records.
 #![tactic(auto)]
 
 pub mod extremes;

@@ -27,7 +27,7 @@ ghost use Rattle.moves.specs.Plan.{plan_of, Met, Crossing};
 use super::search::{Mergable, kink_and_edge};
 use super::vertex::Vertex;
 use geometry::lent::Points;
-use geometry::orientation::turn_of;
+use geometry::orientation::is_colinear;
 use index_edge::IndexEdge;
 use polygon::polygon::Polygon;
 use polygon::position::{Position, PositionId};
@@ -47,7 +47,7 @@ fn parallel_edges(da: Vertex<'_>, db: Position) -> bool
     let a1 = da.point();
     let a2 = da.next().point();
     let b = da.at(db);
-    (turn_of(a1, a2, b.point()) == 0) & (turn_of(a1, a2, b.next().point()) == 0)
+    is_colinear(a1, a2, b.point()) & is_colinear(a1, a2, b.next().point())
 }
 
 // The hoist for two edges that meet on one line. There is always a kink that an edge holds.

@@ -53,7 +53,8 @@ fn pass_beside(kink: Kink<'_>, below: bool, start: RunEdge, end: u16) -> RunEdge
     RunEdge { at, passed: end }
 }
 
-// The kink with the first edge of a run that holds it, if that comes before the best edge so far. `before` edges come before the run.
+// The kink with the first edge of a run that holds it, if that comes before the best edge so far. `before` edges come before the run. A turn of the loop goes
+// from one side of the kink to the other, past as many edges as lie there.
 #[inline(always)] // a call for each kink: a row takes 2 to 3 % more without
 fn better_on_run(kink: Kink<'_>, run: Run, before: u16, best: Best) -> Best
     requires { RunIn kink.vertex.points.n run × (before < kink.vertex.points.n) }
@@ -89,7 +90,7 @@ fn better_on_run(kink: Kink<'_>, run: Run, before: u16, best: Best) -> Best
     best
 }
 
-// The best pair with one kink more.
+// The best pair with one kink more. The two runs are no struct: that both are on the vertex's ring would need the vertex in it.
 fn with_kink(vertex: Vertex<'_>, a: Run, b: Run, best: Best) -> Best
     requires { RunIn vertex.points.n a × RunIn vertex.points.n b }
     ensures { result ≡ better vertex.entry.points.n (point_of vertex.entry) (ring_of vertex.entry) (place_of vertex.entry) 0 (run_edges vertex.entry.points.n a b) best }

@@ -6,7 +6,7 @@ use cursor::Cursor;
 use geometry::lent::Points;
 use geometry::line_segment::is_inside;
 use geometry::orientation::turn_of;
-use geometry::point::Point;
+use geometry::point::NearPoint;
 use polygon::position::Position;
 
 #[derive(Clone, Copy)]
@@ -19,9 +19,9 @@ pub struct Vertex<'a> {
 impl<'a> Vertex<'a> {
     ghost use Rattle.std.specs.Prelude.{◌≡◌, ◌<◌};
     ghost use Rattle.geometry.specs.Segment.{inside};
-    ghost use Rattle.geometry.specs.Lent.{spot, InRange};
+    ghost use Rattle.geometry.specs.Lent.{spot};
     ghost use Rattle.polygon.specs.Ring.{IsRing, next, prev};
-    ghost use Rattle.machine.specs.Board.{pt_at, turn_at, is_straight_line};
+    ghost use Rattle.machine.specs.Board.{pt_at, turn_at};
     ghost use Rattle.moves.specs.Walk.{ring_of, place_of, point_of, Moved, On};
 
     // The vertex at a position of a ring.
@@ -34,9 +34,8 @@ impl<'a> Vertex<'a> {
     }
 
     // The point that stands there.
-    pub fn point(self) -> Point
-        ensures is { spot result ≡ pt_at (point_of self.entry) (ring_of self.entry) (place_of self.entry) }
-        ensures near { InRange (spot result) }
+    pub fn point(self) -> NearPoint
+        ensures { spot result.point ≡ pt_at (point_of self.entry) (ring_of self.entry) (place_of self.entry) }
     {
         self.points.at(self.cursor.point_id())
     }
@@ -70,17 +69,9 @@ impl<'a> Vertex<'a> {
         turn_of(self.prev().point(), self.point(), self.next().point())
     }
 
-    // Collinear with its neighbours. A vertex that is not is a corner.
-    pub fn is_colinear(self) -> bool
-        ensures { result ≡ is_straight_line self.entry.points.n (point_of self.entry) (ring_of self.entry) (place_of self.entry) }
-    {
-        self.orientation() == 0
-    }
-
     // The edge that starts here holds a point strictly inside.
-    pub fn holds(self, p: Point) -> bool
-        requires { InRange (spot p) }
-        ensures { result ≡ inside (pt_at (point_of self.entry) (ring_of self.entry) (place_of self.entry)) (pt_at (point_of self.entry) (ring_of self.entry) (next self.entry.points.n (place_of self.entry))) (spot p) }
+    pub fn holds(self, p: NearPoint) -> bool
+        ensures { result ≡ inside (pt_at (point_of self.entry) (ring_of self.entry) (place_of self.entry)) (pt_at (point_of self.entry) (ring_of self.entry) (next self.entry.points.n (place_of self.entry))) (spot p.point) }
     {
         is_inside(self.point(), self.next().point(), p)
     }

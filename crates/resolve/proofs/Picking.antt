@@ -1,17 +1,16 @@
 -- The start of a run, and its picks one after the other.
-use mathlib.Core.Path.{◌≡◌, refl, sym, ◌∙◌, ap, subst}
+use mathlib.Core.Path.{subst⁻¹, ◌≡◌, refl, sym, ◌∙◌, ap, subst}
 use mathlib.Core.Bool.{false}
 use mathlib.Core.List.{List, [], ◌∷◌, ◌++◌}
 use Prim.Native.Nat.{ℕ, ◌+◌, ◌≤◌, ◌<◌}
 use native.Mathlib.Omega.{arith}
-use native.Mathlib.Numerals.{add-one}
 use lib.ListN.{length, get_or, take, drop, take-append-drop}
-use lib.Seq.{take-suc}
+use Rattle.std.proofs.lemmas.List.{take_more, nil_from_length}
 use Rattle.geometry.specs.Plane.{Point}
 use Rattle.index_edge.specs.Edge.{Edge}
 use Rattle.polygon.specs.Ring.{IsRing, index_of}
 use Rattle.polygon.specs.Edges.{edges}
-use Rattle.intersection_set.specs.Store.{Rec, empty, no_rec, chosen}
+use Rattle.intersection_set.specs.Store.{empty, no_rec, chosen}
 use Rattle.intersection_set.specs.Pool.{Pool}
 use Rattle.intersection_set.specs.Holds.{Holds}
 use Rattle.machine.specs.Board.{Board}
@@ -49,11 +48,8 @@ module _ (n : ℕ) (pt : ℕ → Point) (r : List ℕ) (h : refusal n pt false r
   before_picks ex hold = record { few = ok.few; board = ok.board; ready = begin_ready n pt ok.board r ok.ring; same_ring = refl; same_index = ex; holds = hold }
 
 -- ---- a pick
-pub take_more : (cs : List ℕ) (i : ℕ) → i < length cs → take i cs ++ get_or cs i 0 ∷ [] ≡ take (i + 1) cs
-take_more cs i l = sym (ap (λ k. take k cs) (add-one i) ∙ take-suc cs i 0 l)
-
 pub running_more : {n : ℕ} {pt : ℕ → Point} {s : State} {ring index : List ℕ} {p : Pool} (cs : List ℕ) (i : ℕ) → i < length cs → Running n pt s (take i cs ++ get_or cs i 0 ∷ []) ring index p → Running n pt s (take (i + 1) cs) ring index p
-running_more {n} {pt} {s} {ring} {index} {p} cs i l = subst (λ (xs : List ℕ). Running n pt s xs ring index p) (take_more cs i l)
+running_more {n} {pt} {s} {ring} {index} {p} cs i l = subst⁻¹ (λ (xs : List ℕ). Running n pt s xs ring index p) (take_more cs i 0 l)
 
 module _ {n : ℕ} {pt : ℕ → Point} {s : State} {cs ring index : List ℕ} {p : Pool} (run : Running n pt s cs ring index p) where
   pub live_records : p.counts.live ≡ length (state_after n pt s cs).store.dense
@@ -71,15 +67,11 @@ module _ {n : ℕ} {pt : ℕ → Point} {s : State} {cs ring index : List ℕ} {
       ∙ step_log n pt place c (run_word n pt place cs (from s)) (λ z. (let q = ap length z in omega (arith, q, l, live_records)))
       ∙ omega (arith, e)
 
-none_left : (l : List Rec) → length l ≡ 0 → l ≡ []
-none_left [] e = refl
-none_left (a ∷ l) e = absurd (omega arith)
-
 -- ---- the end: no record is left
 module _ {n : ℕ} {pt : ℕ → Point} {s : State} {ring index : List ℕ} {p : Pool} (cs : List ℕ) (i : ℕ) (run : Running n pt s (take i cs) ring index p) where
   pub ended_early : {k : ℕ} → p.counts.live ≡ 0 → length (run_word n pt place (take i cs) (from s)).log ≡ k → Running n pt s cs ring index p × (length (run_word n pt place cs (from s)).log ≡ k)
   ended_early z e =
-      let none : (state_after n pt s (take i cs)).store.dense ≡ [] = none_left _ (omega (arith, live_records run)) in
+      let none : (state_after n pt s (take i cs)).store.dense ≡ [] = nil_from_length _ (omega (arith, live_records run)) in
       let same : run_word n pt place (take i cs) (from s) ≡ run_word n pt place cs (from s) = sym (ap (λ (xs : List ℕ). run_word n pt place xs (from s)) (sym (take-append-drop i cs)) ∙ run_longer n pt place (take i cs) (drop i cs) (from s) none) in (
         record {
           few = run.few;

@@ -1,4 +1,6 @@
 // A run from a start that the checks accepted: the records of the starting ring, a move for each pick, and the finished loop the right way round.
+// Set, points and polygon are lent apart, here, in run.rt and in the crates below: of references in a struct within a struct, which was tried, the prover does not
+// say what they hold afterwards.
 ghost use Rattle.std.specs.Prelude.{◌≡◌, false, cond, [], ◌≤◌, eqb, length};
 ghost use Rattle.geometry.specs.Spots.{spots};
 ghost use Rattle.polygon.specs.Lent.{SameLoans};
@@ -21,13 +23,9 @@ fn finish(points: Points<'_>, polygon: &mut Polygon<'_>, left: usize)
     ensures same { SameLoans polygon.old polygon.new }
     ensures ring { polygon.new.ring.now ≡ cond (eqb left 0) (finished points.entry.n (spots points.entry) polygon.old.ring.now) polygon.old.ring.now }
 {
-    if 0 < left {
-        return;
+    if left == 0 && is_clockwise(points, polygon.as_slice()) {
+        polygon.turn_round();
     }
-    if !is_clockwise(points, polygon.as_slice()) {
-        return;
-    }
-    polygon.turn_round();
 }
 
 // What a run counts.

@@ -28,7 +28,7 @@ use Rattle.sweeps.specs.declared.pair.Against.TheVariants.{Others, Greater}
 use Rattle.sweeps.specs.Sweep.{asked, wanted}
 
 -- every point of a call is within the limits
-pub at_near : (ps : Points) {i : ℕ} → i < ps.n → InRange (spots ps i)
+at_near : (ps : Points) {i : ℕ} → i < ps.n → InRange (spots ps i)
 at_near ps l = here_in_range (here ps.lent l)
 
 -- ---- the ends of two edges
@@ -36,12 +36,6 @@ low : {n : ℕ} {e : Edge} → Proper n e → e.lo < n
 low p = omega (arith, p.up, p.top)
 
 module _ (ps : Points) {e f : Edge} (a : Among ps.n (spots ps) e f) where
-  pub low_near : InRange (spots ps e.lo)
-  low_near = at_near ps (low a.first)
-
-  pub high_near : InRange (spots ps e.hi)
-  high_near = at_near ps a.first.top
-
   ends_differ : {g : Edge} → Proper ps.n g → spots ps g.lo ≢ spots ps g.hi
   ends_differ p h = absurd (omega (arith, p.up, a.distinct _ _ (low p) p.top h))
 
@@ -63,7 +57,7 @@ module _ (ps : Points) {e f : Edge} (a : Among ps.n (spots ps) e f) where
   unmet Others h = sym (and-false (asked Others e f)) ∙ ap (λ (k : Bool). asked Others e f && k) (h ∙ comm)
   unmet Greater h = sym (and-false (asked Greater e f)) ∙ ap (λ (k : Bool). asked Greater e f && k) h
 
-pub either_in_range : (t : Bool) {p q : Point} → InRange p → InRange q → InRange (cond t p q)
+either_in_range : (t : Bool) {p q : Point} → InRange p → InRange q → InRange (cond t p q)
 either_in_range true h k = h
 either_in_range false h k = k
 
@@ -97,8 +91,8 @@ module _ (ps : Points) {e : Edge} (v w : ℕ) (a : Among ps.n (spots ps) e (edge
   overlap_by el eh ek em er =
       let p = spots ps e.lo in
       let q = spots ps e.hi in
-      let hp = low_near ps a in
-      let hq = high_near ps a in
+      let hp = at_near ps (low a.first) in
+      let hq = at_near ps a.first.top in
       let hv = at_near ps from_below in
       let hw = at_near ps to_below in
       let hl = either_in_range (lt_point p q) hp hq in

@@ -6,10 +6,9 @@ use mathlib.Core.Logic.{◌≢◌}
 use Prim.Native.Nat.{ℕ, suc, ◌+◌, ◌-◌, ◌*◌, ◌≤◌, ◌<◌}
 use native.Mathlib.Omega.{arith}
 use lib.Dec.{ltb}
-use lib.ListN.{length, get_or, take, drop, take-append-drop, length-map}
+use lib.ListN.{length, get_or, take, drop, take-append-drop}
 use lib.Seq.{take-length}
 use native.Mathlib.Numerals.{add-one}
-use Rattle.algebra.specs.Ranges.{up_from, up_from_length}
 use borrow.Author.Tests.{ltb-true, ltb-false}
 use Rattle.algebra.specs.Cases.{both, not_true, and_left}
 use Rattle.algebra.specs.Counting.{length_snoc}
@@ -27,7 +26,7 @@ use Rattle.intersection_set.specs.Within.{Proper}
 use Rattle.intersection_set.specs.Holds.{MayPush}
 use Rattle.intersection_set.proofs.Slots.{Grows}
 use Rattle.machine.specs.Board.{Board, Distinct, meet_edges}
-use Rattle.machine.proofs.Bounds.{scan_over_append, pairs_with_append}
+use Rattle.machine.proofs.Bounds.{edges_length, scan_over_append, pairs_with_append}
 use Rattle.machine.proofs.Kept.{scan_over_grows, pairs_with_grows}
 use Rattle.machine.proofs.Turns.{scan_turn, start_inner, edges_at}
 use Rattle.sweeps.specs.Sweep.{first_of, second_of, wanted, sweep_over, Fits}
@@ -63,16 +62,20 @@ pub sees_on : (n : ℕ) {pt : ℕ → Point} (r : List ℕ) {e : Edge} {s : Seen
 sees_on n {pt} r {e} {s} i z l =
     both (next_cases n i) (λ h. absurd (omega (arith, h.0, l))) (λ h. subst (λ j. Sees pt e (at r j) s) (h.1 ∙ sym (add-one i)) z)
 
+-- the point after position i, where the code finds it among as many points
+pub sees_next : {n m j : ℕ} {pt : ℕ → Point} {e : Edge} {s : Seen} (r : List ℕ) (i : ℕ) → m ≡ n → j ≡ next m i → Sees pt e (at r j) s → Sees pt e (at r (next n i)) s
+sees_next {pt = pt} {e = e} {s = s} r i h f = subst (λ j. Sees pt e (at r j) s) (f ∙ ap (λ m. next m i) h)
+
 -- the edge from the point at i to the next
 pub edge_is : (n : ℕ) (r : List ℕ) (i : ℕ) {v w : ℕ} → v ≡ at r i → w ≡ at r (next n i) → edge v w ≡ edge_at n r i
 edge_is n r i ev ew = λ t. edge (ev t) (ew t)
 
-pub sight : {a : Segment} {n : ℕ} {pt : ℕ → Point} {r : List ℕ} {from to : Seen} {i : ℕ} → a.points.n ≡ n → spots a.points ≡ pt → IsRing n r → Board n pt → i < n →
+pub sight : {a : Segment} {n : ℕ} {pt : ℕ → Point} {r : List ℕ} {from to : Seen} {i : ℕ} → a.points.n ≡ n → spots a.points ≡ pt → Proper n (edge_of a.edge) → IsRing n r → Board n pt → i < n →
     Sees (spots a.points) (edge_of a.edge) (at r i) from → Sees (spots a.points) (edge_of a.edge) (at r (next n i)) to → Sight a from to
-sight {a} {n} {pt} {r} {from} {to} {i} e q ring board l f t =
+sight {a} {n} {pt} {r} {from} {to} {i} e q first ring board l f t =
     let second = subst⁻¹ (Proper n) (edge_is n r i f.number t.number) (proper_at ring (two board) i l) in
     record {
-      among = record { distinct = subst⁻¹ (λ (m : ℕ). Distinct m (spots a.points)) e (subst⁻¹ (Distinct n) q board.distinct); first = a.proper; second = subst⁻¹ (λ m. Proper m (edge from.id.0 to.id.0)) e second };
+      among = record { distinct = subst⁻¹ (λ (m : ℕ). Distinct m (spots a.points)) e (subst⁻¹ (Distinct n) q board.distinct); first = subst⁻¹ (λ m. Proper m (edge_of a.edge)) e first; second = subst⁻¹ (λ m. Proper m (edge from.id.0 to.id.0)) e second };
       first = sees_itself f;
       second = sees_itself t;
     }
@@ -130,9 +133,6 @@ module _ (pt : ℕ → Point) where
       other Greater f p q = q
 
 -- ---- the sweep over the ring's edges
-pub edges_length : (n : ℕ) (r : List ℕ) → length (edges n r) ≡ n
-edges_length n r = length-map (up_from 0 n) (edge_at n r) ∙ up_from_length 0 n
-
 nowhere : Edge
 nowhere = record { lo = 0; hi = 0 }
 

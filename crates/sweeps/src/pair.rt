@@ -9,7 +9,7 @@ ghost use Rattle.sweeps.specs.Sight.{Sight};
 
 use super::segment::{Seen, Segment};
 use geometry::line_segment::{EndPoint, LineSegment, same_side};
-use geometry::point::Point;
+use geometry::point::NearPoint;
 use index_edge::{IndexEdge, PointId};
 use intersection_set::intersection_set::IndexIntersection;
 
@@ -30,13 +30,13 @@ pub struct Pair<'a> {
 }
 
 // An end of an edge: point number a, which stands at t. It is open if it ends the edge from b to c, too.
-fn endpoint(a: PointId, b: PointId, c: PointId, t: Point) -> EndPoint
-    ensures { (end_of result ≡ spot t) × (is_open (mark_of result) ≡ (eqb a.0 b.0 || eqb a.0 c.0)) }
+fn endpoint(a: PointId, b: PointId, c: PointId, t: NearPoint) -> EndPoint
+    ensures { (end_of result ≡ spot t.point) × (is_open (mark_of result) ≡ (eqb a.0 b.0 || eqb a.0 c.0)) }
 {
     if (a == b) | (a == c) {
-        EndPoint::Exclusive(t)
+        EndPoint::Exclusive(t.point)
     } else {
-        EndPoint::Inclusive(t)
+        EndPoint::Inclusive(t.point)
     }
 }
 
@@ -72,7 +72,7 @@ impl<'a> Pair<'a> {
         keys_overlap(self.a.low, self.a.high, self.from.key, self.to.key)
     }
 
-    // The edges meet, an end that they share left out. Where they lie is read again: most edges are told without it.
+    // The edges meet, an end that they share left out. The points are read again: most pairs are settled without them (`is_wanted`).
     pub fn intersects(self) -> bool
         ensures { result ≡ meet_edges (spots self.entry.a.points) (edge_of self.entry.a.edge) (edge_between self.entry.from.id.0 self.entry.to.id.0) }
     {

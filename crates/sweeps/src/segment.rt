@@ -1,13 +1,12 @@
 // An edge with what every ring edge that it is compared with asks of it. What is known of a ring point is carried on: each is read once for an edge.
-ghost use Rattle.geometry.specs.Lent.{spot, InRange};
+ghost use Rattle.geometry.specs.Lent.{spot};
 ghost use Rattle.geometry.specs.Spots.{spots};
 ghost use Rattle.index_edge.specs.Number.{edge_of};
-ghost use Rattle.intersection_set.specs.Within.{Proper};
 ghost use Rattle.sweeps.specs.Spans.{Spans};
 
 use geometry::lent::Points;
 use geometry::orientation::turn_of;
-use geometry::point::Point;
+use geometry::point::NearPoint;
 use index_edge::{IndexEdge, PointId};
 
 // An edge between two of the points, with the points where it ends, and the order keys of the lesser and the greater of them.
@@ -15,13 +14,11 @@ use index_edge::{IndexEdge, PointId};
 pub struct Segment<'a> {
     pub points: Points<'a>,
     pub edge: IndexEdge,
-    pub min: Point,
-    pub max: Point,
+    pub min: NearPoint,
+    pub max: NearPoint,
     pub low: i64,
     pub high: i64,
-    pub ghost proper: { Proper points.n (edge_of edge) },
-    pub ghost near: { InRange (spot min) × InRange (spot max) },
-    pub ghost spans: { Spans (spots points) (edge_of edge) (spot min) (spot max) low high },
+    pub ghost spans: { Spans (spots points) (edge_of edge) (spot min.point) (spot max.point) low high },
 }
 
 // A point by its number, its order key, and how an edge turns to it.
@@ -37,7 +34,7 @@ impl<'a> Segment<'a> {
     ghost use Rattle.sweeps.specs.Sight.{Sees};
 
     pub fn new(points: Points<'a>, edge: IndexEdge) -> Segment<'a>
-        requires { Proper points.n (edge_of edge) }
+        requires { (edge.min.0 < points.n) × (edge.max.0 < points.n) }
         ensures { (result.points ≡ points.entry) × (result.edge ≡ edge) }
     {
         let min = points.at(edge.min);

@@ -1,4 +1,5 @@
-// Records come and go: one edge against the ring, the start, and what a move removes and inserts.
+// Records come and go: one edge against the ring, the start, and what a move removes and inserts. The set is lent apart from points and ring: of references in a
+// struct within a struct the prover does not say what they hold afterwards. Points and ring alone are no struct: of the clauses only `IsRing` would go.
 ghost use Rattle.std.specs.Prelude.{◌≡◌, map};
 ghost use Rattle.geometry.specs.Spots.{spots};
 ghost use Rattle.index_edge.specs.Number.{edge_of};
@@ -20,7 +21,7 @@ use index_edge::{IndexEdge, PointId};
 use intersection_set::intersection_set::IndexIntersectionSet;
 use polygon::position::{Position, PositionId, next_place};
 
-// Each of these edges of the ring that an edge meets is recorded with it.
+// Records an edge with each edge of the ring that it meets, of those that it is asked against.
 pub fn sweep(
     set: &mut IndexIntersectionSet<'_>,
     against: Against,

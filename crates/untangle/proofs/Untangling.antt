@@ -11,12 +11,11 @@ use Rattle.algebra.specs.Cases.{never, or_right}
 use Rattle.geometry.specs.Plane.{Point}
 use Rattle.index_edge.specs.Edge.{Edge, eq_edge, edge_in}
 use Rattle.index_edge.proofs.Edges.{eq_edge_of, lt_edge_diff, member_here, member_there}
-use Rattle.polygon.specs.Ring.{IsRing, Indexed, index_of, prev}
+use Rattle.polygon.specs.Ring.{IsRing, index_of, prev}
 use Rattle.polygon.specs.Edges.{edges, direct}
 use Rattle.polygon.specs.Change.{Plan, stay, uncross, hoist, by_hoist, cut, lay, turned, Fits}
 use Rattle.polygon.proofs.Positions.{prev_lt}
 use Rattle.polygon.proofs.RingEdges.{member_edge}
-use Rattle.polygon.proofs.Index.{indexed_of}
 use Rattle.intersection_set.specs.Store.{Store, no_rec, chosen, removes}
 use Rattle.intersection_set.specs.Pool.{Pool}
 use Rattle.intersection_set.specs.Within.{Proper}
@@ -133,9 +132,6 @@ module _ {n : ℕ} {pt : ℕ → Point} {s : State} {cs ring' index : List ℕ} 
 
   pub the_ring : IsRing n ring'
   the_ring = subst⁻¹ (IsRing n) run.same_ring (ring_ok n pt run.board s run.ready cs)
-
-  pub inverse : Indexed n ring' index
-  inverse = indexed_of the_ring run.same_index
 
   pub crosses : Crossing n pt ring' e f
   crosses = rw (run.same_ring, pick.first, pick.second) (crossing n pt run.board s run.ready cs c pick.some)

@@ -14,7 +14,8 @@ use moves::plan::plan;
 use polygon::polygon::Polygon;
 use sweeps::sweep::{remove_edges, scans};
 
-// Takes two edges that meet apart, so that the loop gets shorter.
+// Replaces two edges that meet, so that the loop gets shorter. Set, points and polygon are lent apart: of references in a struct within a struct the prover
+// does not say what they hold afterwards.
 pub fn untangle(
     set: &mut IndexIntersectionSet<'_>,
     isect: IndexIntersection,

@@ -13,25 +13,22 @@ loop-init c =
     let v = c.args.start in
     let all : v.points.n - 0 ≡ v.points.n = omega arith in (
       record { points = refl; ring = refl; same = ap (λ k. corner c.args.way v.points.n (point_of v) k (ring_of v) (place_of v)) all },
-      carried_first c.args.way (rw c.opposite.ensures at c.step.ensures) c.point-behind.ensures.is c.point-behind.ensures.near c.point-here.ensures.is c.point-here.ensures.near,
+      carried_first c.args.way (rw c.opposite.ensures at c.step.ensures) c.point-behind.ensures c.point-here.ensures,
     )
 
-pub on_line-requires : goal.on_line-requires
-on_line-requires c = let k = c.loop.invariant.1 in (k.near_behind, k.near_here, c.point-ahead.ensures.near)
-
-pub returns-then-not-on_line : goal.returns-then-not-on_line
-returns-then-not-on_line c =
+pub returns-then-not-is_colinear : goal.returns-then-not-is_colinear
+returns-then-not-is_colinear c =
     let way = c.args.way in
     let i = c.loop.invariant in
-    run_stops way i.0 (sym (c.on_line.ensures ∙ straight way i.1 (walk_reads i.0 (step way) c.step-next.ensures c.point-ahead.ensures.is)) ∙ c.if-not-on_line.true)
+    run_stops way i.0 (sym (c.is_colinear.ensures ∙ straight way i.1 (walk_reads i.0 (step way) c.step-next.ensures c.point-ahead.ensures)) ∙ c.if-not-is_colinear.true)
 
 pub loop-preserved : goal.loop-preserved
 loop-preserved c =
     let way = c.args.way in
     let i = c.loop.invariant in
     let fewer : suc (c.args.start.points.n - (c.loop.counter + 1)) ≡ c.args.start.points.n - c.loop.counter = omega (arith, c.loop-test.true) in (
-      run_goes way i.0 fewer (sym (c.on_line.ensures ∙ straight way i.1 (walk_reads i.0 (step way) c.step-next.ensures c.point-ahead.ensures.is)) ∙ c.if-not-on_line.false) c.step-next.ensures,
-      carried_on way i.0 c.step-next.ensures i.1 c.point-ahead.ensures.is c.point-ahead.ensures.near,
+      run_goes way i.0 fewer (sym (c.is_colinear.ensures ∙ straight way i.1 (walk_reads i.0 (step way) c.step-next.ensures c.point-ahead.ensures)) ∙ c.if-not-is_colinear.false) c.step-next.ensures,
+      carried_on way i.0 c.step-next.ensures i.1 c.point-ahead.ensures,
     )
 
 pub returns : goal.returns

@@ -11,4 +11,4 @@ abbrev pub invariant-loop : goal.invariant-loop
 invariant-loop l =
     let v = l.start in
     Walk v (λ k i. corner l.way v.points.n (point_of v) k (ring_of v) i) (corner l.way v.points.n (point_of v) v.points.n (ring_of v) (place_of v)) l.at (v.points.n - l.counter)
-    × Carried l.way v.points.n (point_of v) (ring_of v) (place_of l.at) (spot l.behind) (spot l.here)
+    × Carried l.way v.points.n (point_of v) (ring_of v) (place_of l.at) (spot l.behind.point) (spot l.here.point)

@@ -1,5 +1,5 @@
 -- `plan` meets its contract: the ring directs both edges of the record, and they meet where they start.
-use mathlib.Core.Path.{◌≡◌, sym, ◌∙◌, ap, subst⁻¹}
+use mathlib.Core.Path.{◌≡◌, ◌∙◌, subst⁻¹}
 use Prim.Native.Nat.{ℕ, ◌<◌}
 use Rattle.geometry.specs.Spots.{spots}
 use Rattle.index_edge.specs.Number.{edge_of}

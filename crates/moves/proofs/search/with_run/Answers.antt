@@ -24,10 +24,7 @@ loop-init c =
     let all : suc s.run.edges - 0 ≡ suc s.run.edges = omega arith in
     let k : Walk v (go_on v s.a s.b s.start) (over_kinks n (point_of v) (ring_of v) (run_edges n s.a s.b) (points_of n s.run) s.start) c.at-at.result (suc s.run.edges - 0) =
     record { points = m.points; ring = m.ring; same = λ t. over_kinks n (point_of v) (ring_of v) (run_edges n s.a s.b) (stretch n (m.position t).id.0 (all t)) s.start } in
-    (k, record { behind = walk_reads k prev c.prev.ensures c.point-before.ensures.is; here = walk_here k c.point-here.ensures.is; near_behind = c.point-before.ensures.near; near_here = c.point-here.ensures.near })
-
-pub is_inside-requires : goal.is_inside-requires
-is_inside-requires c = let k = c.loop.invariant.1 in (k.near_behind, c.point-after.ensures.near, k.near_here)
+    (k, record { behind = walk_reads k prev c.prev.ensures c.point-before.ensures; here = walk_here k c.point-here.ensures })
 
 pub loop-preserved : goal.loop-preserved
 loop-preserved c =
@@ -38,7 +35,7 @@ loop-preserved c =
     let k = i.0 in
     let p = place_of c.loop.at in
     let b = c.loop.best in
-    let kink_here : not c.is_inside.result ≡ kink_at n (point_of v) (ring_of v) p = ap not c.is_inside.ensures ∙ kink_is n (point_of v) (ring_of v) i.1 (walk_reads k next c.next-next.ensures c.point-after.ensures.is) in
+    let kink_here : not c.is_inside.result ≡ kink_at n (point_of v) (ring_of v) p = ap not c.is_inside.ensures ∙ kink_is n (point_of v) (ring_of v) i.1 (walk_reads k next c.next-next.ensures c.point-after.ensures) in
     let best_now : c.if-not-is_inside.best ≡ with_kink n (point_of v) (ring_of v) (run_edges n s.a s.b) p b = elim c.if-not-is_inside.branch [
       | then-not-is_inside w ↦ w.best-is ∙ best_moves n (point_of v) (ring_of v) (run_edges n s.a s.b) p b (sym kink_here ∙ ap not w.if-not-is_inside.true)
           (w.with_kink-best.ensures ∙ (λ t. better (k.points t).n (spots (k.points t)) (k.ring t).now p 0 (run_edges (k.points t).n s.a s.b) b))
@@ -46,7 +43,7 @@ loop-preserved c =
     ] in
     let fewer : suc (suc s.run.edges - (c.loop.counter + 1)) ≡ suc s.run.edges - c.loop.counter = omega (arith, c.loop-test.true) in (
       kink_goes v s.a s.b k fewer best_now c.next-next.ensures,
-      carried_on On k c.next-next.ensures i.1 c.point-after.ensures.is c.point-after.ensures.near,
+      carried_on On k c.next-next.ensures i.1 c.point-after.ensures,
     )
 
 -- before the end where no pair can be better, and after all points

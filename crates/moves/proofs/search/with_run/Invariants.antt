@@ -16,4 +16,4 @@ invariant-loop l =
     let v = l.on in
     let n = v.points.n in
     Walk v (go_on v l.a l.b l.best) (over_kinks n (point_of v) (ring_of v) (run_edges n l.a l.b) (points_of n l.fn.run) l.fn.start) l.at (suc l.fn.run.edges - l.counter)
-    × Carried On n (point_of v) (ring_of v) (place_of l.at) (spot l.before) (spot l.here)
+    × Carried On n (point_of v) (ring_of v) (place_of l.at) (spot l.before.point) (spot l.here.point)

@@ -1,5 +1,5 @@
 -- `run` meets its contract: one move more in each turn, until no record or no pick is left.
-use mathlib.Core.Path.{refl, ◌≡◌, ◌∙◌, sym, subst}
+use mathlib.Core.Path.{subst⁻¹, refl, ◌≡◌, ◌∙◌, sym}
 use mathlib.Core.List.{List}
 use Prim.Native.Nat.{ℕ, ◌+◌, ◌<◌}
 use native.Mathlib.Omega.{arith}
@@ -9,7 +9,8 @@ use Rattle.geometry.specs.Spots.{spots}
 use Rattle.intersection_set.proofs.Buffers.{same_then}
 use Rattle.machine.specs.Machine.{run_word, place}
 use Rattle.machine.specs.Onward.{from}
-use Rattle.resolve.proofs.Picking.{take_more, running_more, picked, one_more, ended_early}
+use Rattle.std.proofs.lemmas.List.{take_more}
+use Rattle.resolve.proofs.Picking.{running_more, picked, one_more, ended_early}
 use Rattle.resolve.proofs.run.run.Goals as goal
 
 pub returns-then-is_empty-clause-ran : goal.returns-then-is_empty-clause-ran
@@ -40,6 +41,6 @@ loop-i-preserved c =
           λ r h.
           let b = v.ran r h in (
             running_more cs i l ((rw v.same.vertices at d.running) r (take i cs) (get_or cs i 0) b.0 (picked b.0 some (c.random-isect.ensures _ _ _ b.0.holds refl refl refl))),
-            subst (λ (xs : List ℕ). length (run_word c.args.set.now.vertices (spots c.args.points) place xs (from r)).log ≡ i + 1) (take_more cs i l) (one_more b.0 (get_or cs i 0) some b.1),
+            subst⁻¹ (λ (xs : List ℕ). length (run_word c.args.set.now.vertices (spots c.args.points) place xs (from r)).log ≡ i + 1) (take_more cs i 0 l) (one_more b.0 (get_or cs i 0) some b.1),
           );
     }

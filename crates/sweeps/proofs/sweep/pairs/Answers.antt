@@ -7,7 +7,8 @@ use Rattle.intersection_set.specs.Within.{Proper}
 use Rattle.intersection_set.specs.Holds.{Holds}
 use Rattle.intersection_set.proofs.Buffers.{same_then}
 use Rattle.sweeps.specs.declared.pair.Against.TheVariants.{Greater}
-use Rattle.sweeps.proofs.Sweeping.{two, proper_at, edges_length}
+use Rattle.machine.proofs.Bounds.{edges_length}
+use Rattle.sweeps.proofs.Sweeping.{two, proper_at}
 use Rattle.sweeps.proofs.Several.{ring_edge, sweeps_all, next_sweep, fits_now}
 use Rattle.sweeps.proofs.sweep.pairs.Goals as goal
 

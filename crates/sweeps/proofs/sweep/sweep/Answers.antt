@@ -1,7 +1,5 @@
 -- `sweep` meets its contract: a turn pushes what the ring's edge at i makes, or nothing.
 use mathlib.Core.Path.{◌≡◌, ap, ◌∙◌, subst, subst⁻¹}
-use mathlib.Core.Bool.{true, false}
-use Prim.Native.Nat.{ℕ}
 use native.Mathlib.Omega.{arith}
 use Rattle.geometry.specs.Spots.{spots}
 use Rattle.index_edge.specs.Number.{edge_of}
@@ -11,13 +9,9 @@ use Rattle.intersection_set.specs.Within.{Proper}
 use Rattle.intersection_set.specs.Holds.{Holds}
 use Rattle.intersection_set.proofs.Buffers.{same_then}
 use Rattle.intersection_set.proofs.Pushing.{push_allowed}
-use Rattle.geometry.specs.Plane.{Point}
-use Rattle.index_edge.specs.Edge.{edge}
-use Rattle.polygon.specs.Ring.{at, next}
 use Rattle.geometry.specs.declared.lent.Points.{Points}
-use Rattle.sweeps.specs.Sight.{Sees}
-use Rattle.sweeps.specs.Sweep.{wanted, sweep_over, Fits}
-use Rattle.sweeps.proofs.Sweeping.{two, sees_on, edge_is, sight, may_now, next_some, next_none, sweep_all}
+use Rattle.sweeps.specs.Sweep.{sweep_over, Fits}
+use Rattle.sweeps.proofs.Sweeping.{two, sees_next, sees_on, edge_is, sight, may_now, next_some, next_none, sweep_all}
 use Rattle.sweeps.proofs.sweep.sweep.Goals as goal
 
 -- the point after the ring's i-th
@@ -27,9 +21,8 @@ invariant_of-pair c =
     let a = c.new-a.result in
     let r = c.args.ring.now in
     let l = rw p.0 at c.loop-i-test.true in
-    let after = c.next_place.ensures.0 ∙ ap (λ m. next m c.loop-i.i) p.0 in
-    let to = subst (λ j. Sees (spots a.points) (edge_of a.edge) (at r j) c.see-to.result) after c.see-to.ensures in
-    record { sight = sight {a = a} (ap (λ (q : Points). q.n) c.new-a.ensures.0 ∙ p.0) (ap spots c.new-a.ensures.0) p.1 p.2 l (c.loop-i.invariant.seen l) to }
+    let to = sees_next r c.loop-i.i p.0 c.next_place.ensures.0 c.see-to.ensures in
+    record { sight = sight {a = a} (ap (λ (q : Points). q.n) c.new-a.ensures.0 ∙ p.0) (ap spots c.new-a.ensures.0) (subst⁻¹ (Proper c.args.set.now.vertices) (ap edge_of c.new-a.ensures.1) p.3) p.1 p.2 l (c.loop-i.invariant.seen l) to }
 
 pub loop-i-preserved-in_default : goal.loop-i-preserved-in_default
 loop-i-preserved-in_default c =
@@ -41,9 +34,8 @@ loop-i-preserved-in_default c =
     let e = edge_of a.edge in
     let r = c.args.ring.now in
     let l = rw p.0 at c.loop-i-test.true in
-    let after = c.next_place.ensures.0 ∙ ap (λ m. next m c.loop-i.i) p.0 in
-    let to = subst (λ j. Sees (spots a.points) e (at r j) c.see-to.result) after c.see-to.ensures in
-    let w = subst (λ (pt : ℕ → Point). wanted pt c.args.against e (edge c.loop-i.from.id.0 c.see-to.result.id.0) ≡ false) (ap spots c.new-a.ensures.0) c.in_default.ensures in
+    let to = sees_next r c.loop-i.i p.0 c.next_place.ensures.0 c.see-to.ensures in
+    let w = rw c.new-a.ensures.0 at c.in_default.ensures in
     record {
       same = v.same;
       free = v.free;
@@ -62,14 +54,13 @@ push-requires c =
     let e = edge_of a.edge in
     let r = c.args.ring.now in
     let l = rw p.0 at c.loop-i-test.true in
-    let after = c.next_place.ensures.0 ∙ ap (λ m. next m c.loop-i.i) p.0 in
-    let to = subst (λ j. Sees (spots a.points) e (at r j) c.see-to.result) after c.see-to.ensures in
+    let to = sees_next r c.loop-i.i p.0 c.next_place.ensures.0 c.see-to.ensures in
     let z = ap edge_of c.new-a.ensures.1 in
     let s = p.4.0 in
     let fits : Fits n pt r b e s = subst⁻¹ (λ g. Fits n pt r b g s) z p.4.2 in
     let ef = edge_is n r c.loop-i.i (v.seen l).number to.number in
     let k = c.in-Some.ensures in
-    let w = subst (λ (pt : ℕ → Point). wanted pt b e (edge c.loop-i.from.id.0 c.see-to.result.id.0) ≡ true) (ap spots c.new-a.ensures.0) k.0 in
+    let w = rw c.new-a.ensures.0 at k.0 in
     rw v.same.vertices
     (push_allowed n (pool_in c.loop-i.set) _ (v.holds s p.4.1 fits) _ _ k.1.smaller k.1.larger (may_now n pt r b e c.loop-i.i l ef s w p.1 (two p.2) (subst⁻¹ (Proper n) z p.3) fits))
 
@@ -84,12 +75,11 @@ loop-i-preserved c =
     let e = edge_of a.edge in
     let r = c.args.ring.now in
     let l = rw p.0 at c.loop-i-test.true in
-    let after = c.next_place.ensures.0 ∙ ap (λ m. next m c.loop-i.i) p.0 in
-    let to = subst (λ j. Sees (spots a.points) e (at r j) c.see-to.result) after c.see-to.ensures in
+    let to = sees_next r c.loop-i.i p.0 c.next_place.ensures.0 c.see-to.ensures in
     let z = ap edge_of c.new-a.ensures.1 in
     let ef = edge_is n r c.loop-i.i (v.seen l).number to.number in
     let k = c.in-Some.ensures in
-    let w = subst (λ (pt : ℕ → Point). wanted pt b e (edge c.loop-i.from.id.0 c.see-to.result.id.0) ≡ true) (ap spots c.new-a.ensures.0) k.0 in
+    let w = rw c.new-a.ensures.0 at k.0 in
     let d = c.push.ensures in
     record {
       same = same_then v.same d.same;

@@ -15,5 +15,5 @@ returns c =
     let k = c.args.self in
     let fits : SFits w64 k.key = search rules in
     ap₂ lt_z (read_64 c.order_key.type_inv c.order_key.ensures) (read_given fits k.keyed)
-    ∙ key_lt (spot c.point.result) (spot k.point) c.point.ensures.near k.near
-    ∙ ap (λ p. lt_point p (spot k.point)) c.point.ensures.is
+    ∙ key_lt (spot c.point.result.point) (spot k.point.point) c.point.result.near k.point.near
+    ∙ ap (λ p. lt_point p (spot k.point.point)) c.point.ensures

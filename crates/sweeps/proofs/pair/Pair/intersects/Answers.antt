@@ -10,7 +10,7 @@ use Rattle.geometry.specs.Lent.{InRange}
 use Rattle.geometry.specs.Spots.{spots}
 use Rattle.geometry.proofs.Reading.{read_given}
 use Rattle.index_edge.specs.Number.{edge_of}
-use Rattle.sweeps.proofs.Seeing.{low_near, high_near, at_near, from_below, to_below, share_is, met_is, met_on_line}
+use Rattle.sweeps.proofs.Seeing.{from_below, to_below, share_is, met_is, met_on_line}
 use Rattle.sweeps.proofs.pair.Pair.intersects.Goals as goal
 
 pub returns-then-on_line : goal.returns-then-on_line
@@ -32,12 +32,12 @@ intersects-requires c =
     let to : SFits w64 s.to.turn = search rules in
     let a = c.endpoint.ensures.0 ∙ s.a.spans.first in
     let b = c.endpoint-2.ensures.0 ∙ s.a.spans.second in
-    let d = c.endpoint-3.ensures.0 ∙ c.at.ensures.is in
-    let e = c.endpoint-4.ensures.0 ∙ c.at-2.ensures.is in (
-      subst⁻¹ InRange a (low_near s.a.points v.among),
-      subst⁻¹ InRange b (high_near s.a.points v.among),
-      subst⁻¹ InRange d (at_near s.a.points (from_below s.a.points s.from.id.0 s.to.id.0 v.among)),
-      subst⁻¹ InRange e (at_near s.a.points (to_below s.a.points s.from.id.0 s.to.id.0 v.among)),
+    let d = c.endpoint-3.ensures.0 ∙ c.at.ensures in
+    let e = c.endpoint-4.ensures.0 ∙ c.at-2.ensures in (
+      subst⁻¹ InRange c.endpoint.ensures.0 s.a.min.near,
+      subst⁻¹ InRange c.endpoint-2.ensures.0 s.a.max.near,
+      subst⁻¹ InRange c.endpoint-3.ensures.0 c.at.result.near,
+      subst⁻¹ InRange c.endpoint-4.ensures.0 c.at-2.result.near,
       read_given from v.first.side ∙ sym (λ t. turn (a t) (b t) (d t)),
       read_given to v.second.side ∙ sym (λ t. turn (a t) (b t) (e t)),
       ap₂ ◌||◌ c.endpoint.ensures.1 c.endpoint-2.ensures.1 ∙ share_is s.a.points s.from.id.0 s.to.id.0 v.among ∙ sym (λ t. shared (a t) (b t) (d t) (e t)),
@@ -48,6 +48,6 @@ returns c =
     let s = c.args.self in
     let a = c.endpoint.ensures.0 ∙ s.a.spans.first in
     let b = c.endpoint-2.ensures.0 ∙ s.a.spans.second in
-    let d = c.endpoint-3.ensures.0 ∙ c.at.ensures.is in
-    let e = c.endpoint-4.ensures.0 ∙ c.at-2.ensures.is in
+    let d = c.endpoint-3.ensures.0 ∙ c.at.ensures in
+    let e = c.endpoint-4.ensures.0 ∙ c.at-2.ensures in
     c.intersects.ensures ∙ (λ t. meets (a t) (b t) (d t) (e t)) ∙ met_is (spots s.a.points) (edge_of s.a.edge) s.from.id.0 s.to.id.0
