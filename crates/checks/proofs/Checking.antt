@@ -4,35 +4,29 @@ use mathlib.Core.Bool.{Bool, true, false, not, cond}
 use mathlib.Core.List.{List, [], ◌∷◌}
 use Prim.Native.Nat.{ℕ, zero, suc, ◌-◌, ◌≤◌, ◌<◌}
 use native.Mathlib.Omega.{arith}
+use native.Mathlib.Nat.{sub-zero}
 use lib.Dec.{ltb}
 use lib.IntN.{ℤ}
 use lib.ListN.{length, get_or, take}
 use lib.Seq.{length-take-le}
 use borrow.Author.Tests.{ltb-false}
-use Rattle.algebra.specs.Cases.{both, or_no_left, or_no_right, and_left, and_right, not_false, true_or_false}
+use Rattle.algebra.specs.Cases.{both, or_parts, and_left, and_right, not_false, true_or_false}
 use Rattle.algebra.specs.Ranges.{all_below, all_true, up_from}
-use Rattle.geometry.specs.Plane.{Point, near_point, collinear, near}
+use Rattle.geometry.specs.Plane.{Point, near_point, near}
 use Rattle.geometry.specs.Lent.{points, Lent, coord}
-use Rattle.polygon.specs.Ring.{next, prev, at, each_once}
+use Rattle.polygon.specs.Ring.{at, each_once}
 use Rattle.polygon.proofs.Index.{list_at, first_ring}
 use Rattle.polygon.proofs.EachOnce.{ring_each}
 use Rattle.machine.specs.Board.{is_straight_line}
 use Rattle.machine.specs.Answer.{in_range, none_alike, refusal}
 use Rattle.geometry.specs.Spots.{spots}
 use Rattle.geometry.specs.declared.lent.Points.{Points}
-use Rattle.refusal.specs.Number.{number_of}
-use Rattle.refusal.specs.declared.Refusal.{Refusal}
-use Rattle.refusal.specs.declared.Refusal.TheVariants.{ManyPoints, ShortBuffer, OutOfRange, NoRing, EqualPoints, FewPoints, OneLine, PicksUsedUp, JobLength, TotalLength, ManyJobPoints, AreaOutside, SharedBytes}
 use Rattle.checks.specs.Checks.{any_below, early, first_four, late, Of}
 use Rattle.std.proofs.Common.{Bor}
 
--- a part that starts at 0
-pub from_start : (n : ℕ) → n - 0 ≡ n
-from_start n = omega arith
-
--- what is told of that part and its length is told of the first n entries
+-- what is told of a part that starts at 0 and of its length is told of the first n entries
 pub of_first : {B : Type 0} (f : ℕ → List ℕ → B) (n : ℕ) (l : List ℕ) → n ≤ length l → f (length (take (n - 0) l)) (take (n - 0) l) ≡ f n (take n l)
-of_first f n l h = ap (λ k. f (length (take k l)) (take k l)) (from_start n) ∙ ap (λ k. f k (take n l)) (length-take-le n l h)
+of_first f n l h = ap (λ k. f (length (take k l)) (take k l)) (sub-zero n) ∙ ap (λ k. f k (take n l)) (length-take-le n l h)
 
 -- ---- the number of the first check that fails
 abbrev one_to_three : Bool → Bool → Bool → ℕ → ℕ
@@ -40,12 +34,6 @@ one_to_three b1 b2 b3 k = cond b1 1 (cond b2 2 (cond b3 3 k))
 
 abbrev five_six : Bool → Bool → ℕ → ℕ
 five_six b5 b6 k = cond b5 5 (cond b6 6 k)
-
-at_early : (b1 b2 b3 : Bool) (k : ℕ) → 0 < one_to_three b1 b2 b3 0 → one_to_three b1 b2 b3 k ≡ one_to_three b1 b2 b3 0
-at_early true b2 b3 k h = refl
-at_early false true b3 k h = refl
-at_early false false true k h = refl
-at_early false false false k h = absurd (omega arith)
 
 early_few : (b1 b2 b3 : Bool) → one_to_three b1 b2 b3 0 ≡ 0 → (b1 ≡ false) × (b2 ≡ false) × (b3 ≡ false)
 early_few true b2 b3 h = absurd (omega arith)
@@ -84,23 +72,14 @@ module _ (n : ℕ) (pt : ℕ → Point) (s : Bool) (r : List ℕ) where
   abbrev from_four : ℕ
   from_four = cond (not (each_once n r)) 4 (five_six (not (none_alike n pt)) (ltb n 3) line)
 
-  pub refused_early : 0 < early n pt s → refusal n pt s r ≡ early n pt s
-  refused_early = at_early (ltb 256 n) s (not (in_range n pt)) from_four
-
   pub refused_four : 0 < first_four n pt s r → refusal n pt s r ≡ first_four n pt s r
   refused_four = at_four (ltb 256 n) s (not (in_range n pt)) (not (each_once n r)) (five_six (not (none_alike n pt)) (ltb n 3) line)
-
-  pub four_early : 0 < early n pt s → first_four n pt s r ≡ early n pt s
-  four_early = at_early (ltb 256 n) s (not (in_range n pt)) (cond (not (each_once n r)) 4 0)
 
   pub four_passed : first_four n pt s r ≡ 0 → (early n pt s ≡ 0) × (each_once n r ≡ true)
   four_passed h = let k = four_few (ltb 256 n) s (not (in_range n pt)) (not (each_once n r)) h in (k.0, not_false _ k.1)
 
   -- the three first checks pass
   module _ (ok : early n pt s ≡ 0) where
-    pub four_rest : {b : Bool} → b ≡ each_once n r → first_four n pt s r ≡ cond (not b) 4 0
-    four_rest e = let (a, b, c) = early_few (ltb 256 n) s (not (in_range n pt)) ok in (λ i. one_to_three (a i) (b i) (c i) (cond (not (sym e i)) 4 0))
-
     rest : refusal n pt s r ≡ from_four
     rest = let (a, b, c) = early_few (ltb 256 n) s (not (in_range n pt)) ok in (λ i. one_to_three (a i) (b i) (c i) from_four)
 
@@ -127,13 +106,6 @@ lent_of {n} {x} {y} few lx ly z = record {
   ny = λ i l. and_right (near (coord x i)) (near (coord y i)) (all_true n (λ i. near_point (points x y i)) z i l);
 }
 
-module _ (n : ℕ) (pt : ℕ → Point) (s : Bool) (ok : early n pt s ≡ 0) where
-  pub early_small : n ≤ 256
-  early_small = ltb-false 256 n (early_few (ltb 256 n) s (not (in_range n pt)) ok).0
-
-  pub early_long : s ≡ false
-  early_long = (early_few (ltb 256 n) s (not (in_range n pt)) ok).1
-
 -- ---- what is told of the points of a call is told of those that are lent
 module _ {n : ℕ} {x y : Bor (List ℤ)} (p : Points) (o : Of n x y p) where
   pub same_late : late p.n (spots p) ≡ late n (points x.now y.now)
@@ -142,34 +114,15 @@ module _ {n : ℕ} {x y : Bor (List ℤ)} (p : Points) (o : Of n x y p) where
   pub same_line : (r : ℕ → List ℕ) → all_below p.n (is_straight_line p.n (spots p) (r p.n)) ≡ all_below n (is_straight_line n (points x.now y.now) (r n))
   same_line r = λ t. all_below (o.0 t) (is_straight_line (o.0 t) (points (o.1 t).now (o.2 t).now) (r (o.0 t)))
 
--- no refusal has the number 0
-pub some_number : (r : Refusal) → 0 < number_of r
-some_number ManyPoints = omega arith
-some_number ShortBuffer = omega arith
-some_number OutOfRange = omega arith
-some_number NoRing = omega arith
-some_number EqualPoints = omega arith
-some_number FewPoints = omega arith
-some_number OneLine = omega arith
-some_number (PicksUsedUp moves left) = omega arith
-some_number JobLength = omega arith
-some_number TotalLength = omega arith
-some_number ManyJobPoints = omega arith
-some_number AreaOutside = omega arith
-some_number SharedBytes = omega arith
-
 -- none of the lengths is below the size
 pub long : (size : ℕ) (ls : List ℕ) → any_below size ls ≡ false → (i : ℕ) → i < length ls → size ≤ get_or ls i 0
 long size [] h i l = absurd (omega arith)
-long size (a ∷ ls) h zero l = ltb-false a size (or_no_left (ltb a size) (any_below size ls) h)
-long size (a ∷ ls) h (suc i) l = long size ls (or_no_right (ltb a size) (any_below size ls) h) i (omega arith)
+long size (a ∷ ls) h zero l = ltb-false a size (or_parts (ltb a size) (any_below size ls) h).0
+long size (a ∷ ls) h (suc i) l = long size ls (or_parts (ltb a size) (any_below size ls) h).1 i (omega arith)
 
 -- ---- the points in their own order
 pub in_order_once : (n : ℕ) → each_once n (up_from 0 n) ≡ true
 in_order_once n = ring_each n (up_from 0 n) (first_ring n)
 
-in_order_at : (n i : ℕ) → i < n → at (up_from 0 n) i ≡ i
-in_order_at n i l = list_at 0 n i l ∙ omega arith
-
-pub in_order_line : (n : ℕ) (pt : ℕ → Point) (i : ℕ) → i < n → prev n i < n → next n i < n → collinear (pt (prev n i)) (pt i) (pt (next n i)) ≡ is_straight_line n pt (up_from 0 n) i
-in_order_line n pt i l lp ln j = collinear (pt (sym (in_order_at n (prev n i) lp) j)) (pt (sym (in_order_at n i l) j)) (pt (sym (in_order_at n (next n i) ln) j))
+pub in_order_told : (n i : ℕ) → i < n → i ≡ at (up_from 0 n) i
+in_order_told n i l = sym (list_at 0 n i l ∙ omega arith)

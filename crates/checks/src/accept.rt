@@ -1,11 +1,8 @@
 // The checks of a call, in number order: what passes them has its points, what does not its refusal. None of them writes.
-ghost use Rattle.std.specs.Prelude.{◌≡◌, false, ◌-◌, ◌*◌, ◌≤◌, length, take, IfOk};
-ghost use Rattle.algebra.specs.Ranges.{up_from};
-ghost use Rattle.geometry.specs.Lent.{points};
+ghost use Rattle.std.specs.Prelude.{◌≡◌, false, ◌-◌, ◌*◌, ◌≤◌, length};
 ghost use Rattle.geometry.specs.Spots.{spots};
-ghost use Rattle.machine.specs.Answer.{refusal};
 ghost use Rattle.refusal.specs.Number.{refused};
-ghost use Rattle.checks.specs.Checks.{any_below, short, early as early_checks, first_four, late as late_checks, Of};
+ghost use Rattle.checks.specs.Checks.{any_below, short as is_short, late as late_checks};
 
 use super::start::{all_colinear, colinear_in_order, in_range, none_alike};
 use geometry::lent::Points;
@@ -32,46 +29,9 @@ fn any_below(size: usize, lengths: &[usize]) -> bool
 // Check 2, by the lengths of what is lent: buffers of n entries and buffers of records. With more than 256 points check 1 refuses first, and the answer is not
 // asked for.
 pub fn too_short(n: usize, of_points: &[usize], of_records: &[usize]) -> bool
-    ensures { n ≤ 256 → result ≡ short n of_points.now of_records.now }
+    ensures { n ≤ 256 → result ≡ is_short n of_points.now of_records.now }
 {
     256 < n || any_below(n, of_points) || any_below(record_size(n), of_records)
-}
-
-// Checks 1, 2 and 3.
-fn early<'a>(n: usize, x: &'a [i32], y: &'a [i32], short: bool) -> Result<Points<'a>, Refusal>
-    requires { n ≤ 256 → short ≡ false → (n ≤ length x.now) × (n ≤ length y.now) }
-    ensures number { refused result ≡ early_checks n (points x.now y.now) short }
-    ensures passed { IfOk result (Of n x.entry y.entry) }
-{
-    if 256 < n {
-        return Err(Refusal::ManyPoints);
-    }
-    if short {
-        return Err(Refusal::ShortBuffer);
-    }
-    if !in_range(n, x, y) {
-        return Err(Refusal::OutOfRange);
-    }
-    Ok(Points { n, x, y })
-}
-
-// Checks 1 to 4, of the first n entries of a lent ring.
-pub fn first_four<'a>(
-    n: usize,
-    x: &'a [i32],
-    y: &'a [i32],
-    ring: &[u16],
-    short: bool,
-) -> Result<Points<'a>, Refusal>
-    requires { n ≤ 256 → short ≡ false → (n ≤ length x.now) × (n ≤ length y.now) × (n ≤ length ring.now) }
-    ensures number { refused result ≡ first_four n (points x.now y.now) short (take n ring.now) }
-    ensures passed { IfOk result (Of n x.entry y.entry) }
-{
-    let points = early(n, x, y, short)?;
-    if !each_once(&ring[..n]) {
-        return Err(Refusal::NoRing);
-    }
-    Ok(points)
 }
 
 // Checks 5 and 6.
@@ -87,41 +47,79 @@ fn late(points: Points<'_>) -> Result<(), Refusal>
     Ok(())
 }
 
-// All checks of a start from the points in their own order.
-pub fn check_in_order<'a>(
-    n: usize,
-    x: &'a [i32],
-    y: &'a [i32],
-    short: bool,
-) -> Result<Points<'a>, Refusal>
-    requires { n ≤ 256 → short ≡ false → (n ≤ length x.now) × (n ≤ length y.now) }
-    ensures number { refused result ≡ refusal n (points x.now y.now) short (up_from 0 n) }
-    ensures passed { IfOk result (Of n x.entry y.entry) }
-{
-    let points = early(n, x, y, short)?;
-    late(points)?;
-    if colinear_in_order(points) {
-        return Err(Refusal::OneLine);
-    }
-    Ok(points)
+// What a call gives of its points, before any check: so many, where they stand, and whether some buffer is too short (check 2).
+#[derive(Clone, Copy)]
+pub struct Given<'a> {
+    pub n: usize,
+    pub x: &'a [i32],
+    pub y: &'a [i32],
+    pub short: bool,
+    pub ghost long: { n ≤ 256 → short ≡ false → (n ≤ length x.now) × (n ≤ length y.now) },
 }
 
-// The same for a start from the first n entries of a lent ring.
-pub fn check_ring<'a>(
-    n: usize,
-    x: &'a [i32],
-    y: &'a [i32],
-    ring: &[u16],
-    short: bool,
-) -> Result<Points<'a>, Refusal>
-    requires { n ≤ 256 → short ≡ false → (n ≤ length x.now) × (n ≤ length y.now) × (n ≤ length ring.now) }
-    ensures number { refused result ≡ refusal n (points x.now y.now) short (take n ring.now) }
-    ensures passed { IfOk result (Of n x.entry y.entry) }
-{
-    let points = first_four(n, x, y, ring, short)?;
-    late(points)?;
-    if all_colinear(points, &ring[..n]) {
-        return Err(Refusal::OneLine);
+impl<'a> Given<'a> {
+    ghost use Rattle.std.specs.Prelude.{take, IfOk};
+    ghost use Rattle.algebra.specs.Ranges.{up_from};
+    ghost use Rattle.geometry.specs.Lent.{points};
+    ghost use Rattle.machine.specs.Answer.{refusal};
+    ghost use Rattle.refusal.specs.Number.{refused};
+    ghost use Rattle.checks.specs.Checks.{early as early_checks, first_four, Of};
+
+    // Checks 1, 2 and 3.
+    fn early(self) -> Result<Points<'a>, Refusal>
+        ensures number { refused result ≡ early_checks self.entry.n (points self.entry.x.now self.entry.y.now) self.entry.short }
+        ensures passed { IfOk result (Of self.entry.n self.entry.x self.entry.y) }
+    {
+        let Given { n, x, y, short } = self;
+        if 256 < n {
+            return Err(Refusal::ManyPoints);
+        }
+        if short {
+            return Err(Refusal::ShortBuffer);
+        }
+        if !in_range(n, x, y) {
+            return Err(Refusal::OutOfRange);
+        }
+        Ok(Points { n, x, y })
     }
-    Ok(points)
+
+    // Checks 1 to 4, of the first n entries of a lent ring.
+    pub fn first_four(self, ring: &[u16]) -> Result<Points<'a>, Refusal>
+        requires { self.n ≤ 256 → self.short ≡ false → self.n ≤ length ring.now }
+        ensures number { refused result ≡ first_four self.entry.n (points self.entry.x.now self.entry.y.now) self.entry.short (take self.entry.n ring.now) }
+        ensures passed { IfOk result (Of self.entry.n self.entry.x self.entry.y) }
+    {
+        let points = self.early()?;
+        if !each_once(&ring[..self.n]) {
+            return Err(Refusal::NoRing);
+        }
+        Ok(points)
+    }
+
+    // All checks of a start from the points in their own order. Not one with `check_ring`: no ring is written before they are through, so there is none to ask.
+    pub fn check_in_order(self) -> Result<Points<'a>, Refusal>
+        ensures number { refused result ≡ refusal self.entry.n (points self.entry.x.now self.entry.y.now) self.entry.short (up_from 0 self.entry.n) }
+        ensures passed { IfOk result (Of self.entry.n self.entry.x self.entry.y) }
+    {
+        let points = self.early()?;
+        late(points)?;
+        if colinear_in_order(points) {
+            return Err(Refusal::OneLine);
+        }
+        Ok(points)
+    }
+
+    // The same for a start from the first n entries of a lent ring.
+    pub fn check_ring(self, ring: &[u16]) -> Result<Points<'a>, Refusal>
+        requires { self.n ≤ 256 → self.short ≡ false → self.n ≤ length ring.now }
+        ensures number { refused result ≡ refusal self.entry.n (points self.entry.x.now self.entry.y.now) self.entry.short (take self.entry.n ring.now) }
+        ensures passed { IfOk result (Of self.entry.n self.entry.x self.entry.y) }
+    {
+        let points = self.first_four(ring)?;
+        late(points)?;
+        if all_colinear(points, &ring[..self.n]) {
+            return Err(Refusal::OneLine);
+        }
+        Ok(points)
+    }
 }

@@ -1,5 +1,5 @@
 // What the checks ask of points and ring, and the way round a ring.
-ghost use Rattle.std.specs.Prelude.{◌≡◌, ◌-◌, ◌≤◌, ◌<◌, length};
+ghost use Rattle.std.specs.Prelude.{◌≡◌, List, ℕ, ◌-◌, ◌≤◌, ◌<◌, length};
 ghost use Rattle.algebra.specs.Ranges.{all_below, up_from};
 ghost use Rattle.geometry.specs.Lent.{points};
 ghost use Rattle.geometry.specs.Spots.{spots};
@@ -9,12 +9,14 @@ ghost use Rattle.machine.specs.Board.{is_straight_line};
 ghost use Rattle.machine.specs.Answer.{in_range, new_point, none_alike, least_to, clockwise};
 ghost use Rattle.moves.specs.Walk.{ring_of, point_of, On};
 ghost use Rattle.checks.specs.Least.{lesser_at};
+ghost use Rattle.checks.specs.Told.{Names, Tells};
 
 use geometry::lent::Points;
-use geometry::orientation::turn_of;
+use geometry::orientation;
 use geometry::point::Point;
 use index_edge::PointId;
 use moves::vertex::Vertex;
+use polygon::polygon::position_to_point_id;
 use polygon::position::{Position, PositionId};
 
 // Check 3: every coordinate is within the limits.
@@ -22,13 +24,7 @@ pub fn in_range(n: usize, x: &[i32], y: &[i32]) -> bool
     requires { (n ≤ length x.now) × (n ≤ length y.now) }
     ensures { result ≡ in_range n (points x.now y.now) }
 {
-    for i in 0..n {
-        let point = Point { x: x[i], y: y[i] };
-        if !point.is_in_range() {
-            return false;
-        }
-    }
-    true
+    (0..n).all(|i| Point { x: x[i], y: y[i] }.is_in_range())
 }
 
 // A point is none of those before it.
@@ -36,50 +32,51 @@ fn is_new(points: Points<'_>, id: PointId) -> bool
     requires { id.0 < points.n }
     ensures { result ≡ new_point (spots points.entry) id.0 }
 {
-    let point = points.at(id);
-    for j in 0..id.0 {
-        if points.at(PointId(j)) == point {
-            return false;
-        }
-    }
-    true
+    let point = points.at(id).point;
+    (0..id.0).all(|j| points.at(PointId(j)).point != point)
 }
 
 // Check 5: no point equals an earlier one.
 pub fn none_alike(points: Points<'_>) -> bool
     ensures { result ≡ none_alike points.entry.n (spots points.entry) }
 {
-    for i in 0..points.size() {
-        if !is_new(points, PointId(i)) {
-            return false;
-        }
-    }
-    true
+    (0..points.size()).all(|i| is_new(points, PointId(i)))
 }
 
-// The point at a position of the points in their own order is collinear with those before and after it.
-fn is_colinear(points: Points<'_>, at: Position) -> bool
-    requires { (at.size ≡ points.n) × (at.id.0 < points.n) }
-    ensures { result ≡ is_straight_line points.entry.n (spots points.entry) (up_from 0 points.entry.n) at.id.0 }
+// The point at a position is collinear with those before and after it. `point_id` answers whose point stands at a position.
+fn is_colinear<F: Fn(PositionId) -> PointId>(
+    points: Points<'_>,
+    here: Position,
+    point_id: &F,
+) -> bool
+    requires here { (here.size ≡ points.n) × (here.id.0 < points.n) }
+    requires names { Names points.n (F.pre point_id.now) (F.post point_id.now) }
+    ensures { (ring : List ℕ) → Tells points.entry.n (F.post point_id.entry.now) ring → result ≡ is_straight_line points.entry.n (spots points.entry) ring here.id.0 }
 {
-    let before = points.at(PointId(at.prev().id.0));
-    let here = points.at(PointId(at.id.0));
-    let after = points.at(PointId(at.next().id.0));
-    turn_of(before, here, after) == 0
+    let before = points.at(point_id(here.prev().id));
+    let point = points.at(point_id(here.id));
+    let after = points.at(point_id(here.next().id));
+    orientation::is_colinear(before, point, after)
+}
+
+// So is every point: one walk for the points in their own order and for those of a lent ring.
+fn each_colinear<F: Fn(PositionId) -> PointId>(points: Points<'_>, point_id: F) -> bool
+    requires { Names points.n (F.pre point_id) (F.post point_id) }
+    ensures { (ring : List ℕ) → Tells points.entry.n (F.post point_id) ring → result ≡ all_below points.entry.n (is_straight_line points.entry.n (spots points.entry) ring) }
+{
+    let size = points.size();
+    (0..size).all(|i| {
+        let id = PositionId(i);
+        is_colinear(points, Position { id, size }, &point_id)
+    })
 }
 
 // Check 7 for the points in their own order, with no ring lent.
+#[tactic(auto, using(crate::proofs::Checking::in_order_told))]
 pub fn colinear_in_order(points: Points<'_>) -> bool
     ensures { result ≡ all_below points.entry.n (is_straight_line points.entry.n (spots points.entry) (up_from 0 points.entry.n)) }
 {
-    let size = points.size();
-    for i in 0..size {
-        let id = PositionId(i);
-        if !is_colinear(points, Position { id, size }) {
-            return false;
-        }
-    }
-    true
+    each_colinear(points, |position| PointId(position.0))
 }
 
 // Check 7: every vertex is collinear with its neighbours.
@@ -87,14 +84,7 @@ pub fn all_colinear(points: Points<'_>, ring: &[u16]) -> bool
     requires { IsRing points.n ring.now }
     ensures { result ≡ all_below points.entry.n (is_straight_line points.entry.n (spots points.entry) ring.now) }
 {
-    let size = points.size();
-    for i in 0..size {
-        let id = PositionId(i);
-        if !Vertex::new(points, ring, Position { id, size }).is_colinear() {
-            return false;
-        }
-    }
-    true
+    each_colinear(points, |position| position_to_point_id(ring, position))
 }
 
 // Of two positions, that of the lesser point. `on` stands somewhere on the ring.
@@ -109,7 +99,7 @@ fn lesser_at(on: Vertex<'_>, i: Position, j: Position) -> Position
     }
 }
 
-// The position of the least point.
+// The position of the least point. A `for`, since at a `fold` it would have to be shown for each turn that the least so far is a position of the ring.
 fn least_at(on: Vertex<'_>) -> Position
     ensures { result ≡ position on.entry.points.n (least_to on.entry.points.n (point_of on.entry) (ring_of on.entry) (on.entry.points.n - 1)) }
 {

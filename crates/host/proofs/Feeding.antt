@@ -2,6 +2,7 @@
 use Rattle.std.proofs.Common.{◌≡◌, sym, Bool, List, [], ◌∷◌, ℕ, ◌≤◌, length, take, ℤ, arith}
 use Rattle.refusal.specs.declared.Refusal.{Refusal}
 use Rattle.refusal.specs.Number.{number_of}
+use Rattle.refusal.proofs.Numbers.{some_number}
 use Rattle.geometry.specs.Answers.{answered, refused as denied}
 use Rattle.geometry.specs.Lent.{points, Lent}
 use Rattle.polygon.proofs.EachOnce.{each_ring}
@@ -9,7 +10,6 @@ use Rattle.checks.specs.Checks.{any_below, short, first_four}
 use Rattle.checks.proofs.Checking.{four_passed}
 use Rattle.job.specs.Feed.{feed_of, Drawn}
 use Rattle.job.proofs.Feeds.{ring_drawn}
-use Rattle.job.proofs.Refusals.{some_number}
 use Rattle.host.specs.Numbers.{fed}
 
 -- what a call is lent

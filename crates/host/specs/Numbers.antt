@@ -1,11 +1,13 @@
 -- What hosts are told: each answer in numbers.
-use Rattle.std.specs.Prelude.{Bool, true, false, cond, List, [], ◌∷◌, ℕ, eqb, ltb, ℤ, length, take, Result, Ok, Err}
+use Rattle.std.specs.Prelude.{Bool, true, false, cond, List, [], ◌∷◌, ℕ, eqb, ltb, ℤ, length, take, Option as Found, Result, Ok, Err}
 use Rattle.std.proofs.Math.Option.{Option, none, some}
 use Rattle.refusal.specs.declared.Refusal.{Refusal}
 use Rattle.refusal.specs.Number.{number_of}
 use Rattle.geometry.specs.Lent.{points}
 use Rattle.geometry.specs.Answers.{Answer as Told, refused as denied, answered}
 use Rattle.polygon.specs.Ring.{first_fault}
+use Rattle.polygon.specs.Place.{fault_of}
+use Rattle.polygon.specs.declared.position.PositionId.{PositionId}
 use Rattle.machine.specs.Answer.{Answer, refused, unfinished, delivered}
 use Rattle.checks.specs.Checks.{any_below, first_four}
 use Rattle.job.specs.declared.reader.Counts.{Counts}
@@ -38,11 +40,6 @@ fed n x y ring =
     let number = first_four n (points x y) (any_below n (length x ∷ length y ∷ length ring ∷ [])) (take n ring) in
     cond (eqb number 0) (answered (feed_of (points x y) (take n ring))) (denied number)
 
--- a result of the code in these words
-abbrev pub told : {A : Type 0} → Result A Refusal → Told A
-told (Ok a) = answered a
-told (Err refusal) = denied (number_of refusal)
-
 -- 0 with the feed, else the number of the refusal
 abbrev pub feed_in_numbers : Told ℕ → TourFeed
 feed_in_numbers (answered feed) = record { code = 0; feed = feed }
@@ -51,6 +48,11 @@ feed_in_numbers (denied number) = record { code = number; feed = 0 }
 -- What is told of a lent ring: the first of its first n entries that is at fault, if one is; or the first of the checks 1 and 2 that fails.
 unfoldable pub ring_fault : ℕ → List ℕ → Told (Option ℕ)
 ring_fault n ring = cond (ltb 256 n) (denied 1) (cond (ltb (length ring) n) (denied 2) (answered (first_fault n (take n ring))))
+
+-- a result of the code in these words
+abbrev pub found : Result (Found PositionId) Refusal → Told (Option ℕ)
+found (Ok fault) = answered (fault_of fault)
+found (Err r) = denied (number_of r)
 
 -- 0 where no entry is at fault, 4 with the position of the first that is, else the number of the refusal
 abbrev pub fault_in_numbers : Told (Option ℕ) → TourFault

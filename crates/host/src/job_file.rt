@@ -1,6 +1,7 @@
 // The job reader for hosts.
 ghost use Rattle.std.specs.Prelude.{◌≡◌, Result};
-ghost use Rattle.job.specs.Job.{Reading, outcome_of};
+ghost use Rattle.geometry.specs.Answers.{told};
+ghost use Rattle.job.specs.Job.{Reading};
 ghost use Rattle.job.specs.declared.reader.Counts.{Counts};
 ghost use Rattle.refusal.specs.declared.Refusal.{Refusal};
 ghost use Rattle.host.specs.Numbers.{job_in_numbers};
@@ -18,7 +19,7 @@ pub struct TourJob {
 }
 
 impl From<Result<Counts, Refusal>> for TourJob {
-    ghost from_gives = { λ outcome told. told ≡ job_in_numbers (outcome_of outcome) };
+    ghost from_gives = { λ outcome given. given ≡ job_in_numbers (told outcome) };
 
     fn from(outcome: Result<Counts, Refusal>) -> TourJob {
         match outcome {
@@ -44,7 +45,7 @@ pub extern "C" fn tour_read_job(
     y: &mut [i32],
     picks: &mut [u32],
 ) -> TourJob
-    ensures { (o : Result Counts Refusal) × (result ≡ job_in_numbers (outcome_of o)) × Reading job.now x.old y.old picks.old o x.new y.new picks.new }
+    ensures { (o : Result Counts Refusal) × (result ≡ job_in_numbers (told o)) × Reading job.now x.old y.old picks.old o x.new y.new picks.new }
 {
     read_job(job, x, y, picks).into()
 }

@@ -1,9 +1,10 @@
 // The feed of a loop for hosts.
 ghost use Rattle.std.specs.Prelude.{◌≡◌, Result};
 ghost use Rattle.refusal.specs.declared.Refusal.{Refusal};
-ghost use Rattle.host.specs.Numbers.{told, fed, feed_in_numbers};
+ghost use Rattle.geometry.specs.Answers.{told};
+ghost use Rattle.host.specs.Numbers.{fed, feed_in_numbers};
 
-use checks::accept::{first_four, too_short};
+use checks::accept::{Given, too_short};
 use job::feed::Loop;
 use refusal::Refusal;
 
@@ -33,8 +34,8 @@ fn feed(n: usize, x: &[i32], y: &[i32], ring: &[u16]) -> Result<u64, Refusal>
     ensures { told result ≡ fed n x.now y.now ring.now }
 {
     let short = too_short(n, &[x.len(), y.len(), ring.len()], &[]);
-    first_four(n, x, y, ring, short)?;
-    let ring = &ring[0..n];
+    Given { n, x, y, short }.first_four(ring)?;
+    let ring = &ring[..n];
     Ok(Loop { x, y, ring }.feed())
 }
 

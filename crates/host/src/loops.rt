@@ -1,4 +1,4 @@
-// The two entries for hosts.
+// The two entries for hosts. C lends each buffer by itself, as a pointer and a length.
 ghost use Rattle.std.specs.Prelude.{◌≡◌, List, ℕ, take};
 ghost use Rattle.algebra.specs.Ranges.{up_from};
 ghost use Rattle.machine.specs.Answer.{Answer as Told};
@@ -8,6 +8,7 @@ ghost use Rattle.host.specs.Numbers.{in_numbers};
 
 use refusal::Refusal;
 use two_opt::entries::{Delivered, resolve_self_intersections, two_opt_moves};
+use two_opt::workspace::Workspace;
 
 // An answer in numbers: code 0 with moves and cross for a delivered loop, code 8 with moves and left where the picks are used up, else
 // the number of the refusal alone. What a code does not name is 0.
@@ -31,8 +32,8 @@ impl From<Result<Delivered, Refusal>> for TourAnswer {
                 cross,
                 left: 0,
             },
-            Err(Refusal::PicksUsedUp { moves, left }) => TourAnswer {
-                code: 8,
+            Err(refusal @ Refusal::PicksUsedUp { moves, left }) => TourAnswer {
+                code: refusal.number() as u32,
                 moves,
                 cross: 0,
                 left,
@@ -67,10 +68,17 @@ pub extern "C" fn tour_two_opt_moves(
         let is = loan ring.new index.new (lent heads.new ends.new links.new dense.new reverse.new free.new) in
         ((a : Told) × (result ≡ in_numbers a) × Entry n x.now y.now (up_from 0 n) picks.now was is a) }
 {
-    two_opt_moves(
-        n, x, y, picks, ring, index, heads, ends, links, dense, reverse, free,
-    )
-    .into()
+    let mut work = Workspace {
+        ring,
+        index,
+        heads,
+        ends,
+        links,
+        dense,
+        reverse,
+        free,
+    };
+    two_opt_moves(n, x, y, picks, &mut work).into()
 }
 
 // A loop through the points, starting from the lent ring.
@@ -93,8 +101,15 @@ pub extern "C" fn tour_resolve_self_intersections(
         let is = loan ring.new index.new (lent heads.new ends.new links.new dense.new reverse.new free.new) in
         ((a : Told) × (result ≡ in_numbers a) × Entry n x.now y.now (take n ring.old) picks.now was is a) }
 {
-    resolve_self_intersections(
-        n, x, y, picks, ring, index, heads, ends, links, dense, reverse, free,
-    )
-    .into()
+    let mut work = Workspace {
+        ring,
+        index,
+        heads,
+        ends,
+        links,
+        dense,
+        reverse,
+        free,
+    };
+    resolve_self_intersections(n, x, y, picks, &mut work).into()
 }

@@ -1,6 +1,6 @@
 // The meeting test for hosts.
 ghost use Rattle.std.specs.Prelude.{◌≡◌};
-ghost use Rattle.geometry.specs.Answers.{meeting, verdict_of};
+ghost use Rattle.geometry.specs.Answers.{told, meeting};
 ghost use Rattle.host.specs.Numbers.{yes_or_no};
 
 use geometry::line_segment::meets;
@@ -8,7 +8,7 @@ use geometry::point::Point;
 use refusal::Refusal;
 
 fn in_number(met: Result<bool, Refusal>) -> u32
-    ensures { result ≡ yes_or_no (verdict_of met) }
+    ensures { result ≡ yes_or_no (told met) }
 {
     match met {
         Ok(true) => 1,

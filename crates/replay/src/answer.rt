@@ -12,7 +12,7 @@ fn write_ring<W: Write>(out: &mut W, ring: &[u16]) -> io::Result<()> {
     writeln!(out)
 }
 
-// The four point numbers of a record, which stand in one word.
+// The four point numbers of a record, which stand in one word. Read by its bytes, not as the library unpacks it, which is on trial here.
 fn points_of(ends: u64) -> [u16; 4] {
     let [a0, a1, b0, b1, c0, c1, d0, d1] = ends.to_le_bytes();
     [
@@ -47,8 +47,12 @@ pub fn write_answer<W: Write>(
             writeln!(out, "ok moves {moves} cross {cross}")?;
             write_ring(out, ring)
         }
-        Err(Refusal::PicksUsedUp { moves, left }) => {
-            writeln!(out, "refused 8 moves {moves} left {left}")?;
+        Err(refusal @ Refusal::PicksUsedUp { moves, left }) => {
+            writeln!(
+                out,
+                "refused {} moves {moves} left {left}",
+                refusal.number()
+            )?;
             write_ring(out, ring)?;
             write_records(out, &dense[..left.min(dense.len())], ends)
         }

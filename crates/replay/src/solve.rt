@@ -5,22 +5,7 @@ use refusal::Refusal;
 use std::alloc::{AllocError, Global};
 use std::io::{self, Write};
 use two_opt::entries::{Delivered, resolve_self_intersections, two_opt_moves};
-
-// The two entries take and answer the same.
-type Entry = fn(
-    usize,
-    &[i32],
-    &[i32],
-    &[u32],
-    &mut [u16],
-    &mut [u16],
-    &mut [u16],
-    &mut [u64],
-    &mut [u64],
-    &mut [u16],
-    &mut [u16],
-    &mut [u16],
-) -> Result<Delivered, Refusal>;
+use two_opt::workspace::Workspace;
 
 // What is enough for every call that is not refused: that many points, and a record for each of their pairs in each order.
 const POINTS: usize = 256;
@@ -62,24 +47,20 @@ impl Buffers {
         picks: &[u32],
         ring: &mut [u16],
     ) -> Result<Delivered, Refusal> {
-        let entry: Entry = match kind {
-            Kind::TwoOptMoves => two_opt_moves,
-            Kind::ResolveSelfIntersections => resolve_self_intersections,
-        };
-        entry(
-            n,
-            x,
-            y,
-            picks,
+        let mut work = Workspace {
             ring,
-            &mut self.index,
-            &mut self.heads,
-            &mut self.ends,
-            &mut self.links,
-            &mut self.dense,
-            &mut self.reverse,
-            &mut self.free,
-        )
+            index: &mut self.index,
+            heads: &mut self.heads,
+            ends: &mut self.ends,
+            links: &mut self.links,
+            dense: &mut self.dense,
+            reverse: &mut self.reverse,
+            free: &mut self.free,
+        };
+        match kind {
+            Kind::TwoOptMoves => two_opt_moves(n, x, y, picks, &mut work),
+            Kind::ResolveSelfIntersections => resolve_self_intersections(n, x, y, picks, &mut work),
+        }
     }
 
     // Runs a case and writes its answer. A case without a ring starts with any; an entry that 16 bits do not hold names no point, as 65,535 does.

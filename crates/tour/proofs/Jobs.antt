@@ -4,11 +4,11 @@ use mathlib.Core.Bool.{Bool, true, false, ◌&&◌}
 use mathlib.Core.List.{List, [], ◌∷◌}
 use Prim.Native.Nat.{ℕ, zero, suc, ◌+◌, ◌-◌, ◌≤◌}
 use native.Mathlib.Omega.{arith}
-use lib.IntN.{ℤ, pos, negsuc}
+use lib.IntN.{ℤ, pos}
 use lib.ListN.{length, take, drop}
 use lib.Seq.{get_or-append-add, get_or-drop, take-append_seam}
-use borrow.Author.Tests.{eq-eqb, ne_eqb, eqb-true}
-use Rattle.algebra.specs.Cases.{both, le_cases, never, and_left, and_right}
+use borrow.Author.Tests.{eq-eqb, ne_eqb}
+use Rattle.algebra.specs.Cases.{both, le_cases, and_left, and_right}
 use Rattle.algebra.specs.Ranges.{up_from, table_at}
 use Rattle.geometry.specs.Plane.{is_zero}
 use Rattle.geometry.specs.Lent.{coord, points}
@@ -17,6 +17,8 @@ use Rattle.job.specs.Buffers.{over}
 use Rattle.job.specs.Job.{x_at, y_at, pick_at, refusal, accepted}
 use Rattle.refusal.specs.Number.{number_of}
 use Rattle.refusal.specs.declared.Refusal.{Refusal}
+use Rattle.std.proofs.lemmas.List.{get_or_past}
+use Rattle.geometry.proofs.Points.{zero_yes}
 use Rattle.job.specs.Text.{refusal_line}
 use Rattle.job.proofs.Lines.{other_line}
 use Rattle.job.proofs.Refusals.{never_eight}
@@ -24,23 +26,14 @@ use Rattle.job.proofs.Written.{table, length_table, over_at}
 use Rattle.job.proofs.ReadJobs.{WasRead, WasRefused}
 use Rattle.tour.specs.Printed.{told, printed}
 
-past_end : (l : List ℤ) (i : ℕ) → length l ≤ i → coord l i ≡ pos 0
-past_end [] i h = refl
-past_end (a ∷ l) zero h = absurd (omega arith)
-past_end (a ∷ l) (suc i) h = past_end l i (omega arith)
-
 -- a buffer of zeros, by a test that computes
 abbrev pub all_zero : List ℤ → Bool
 all_zero [] = true
 all_zero (a ∷ l) = is_zero a && all_zero l
 
-zero_is : (z : ℤ) → is_zero z ≡ true → z ≡ pos 0
-zero_is (pos n) h = ap pos (eqb-true n 0 h)
-zero_is (negsuc n) h = never false h refl
-
 zero_at : (l : List ℤ) → all_zero l ≡ true → (i : ℕ) → coord l i ≡ pos 0
 zero_at [] h i = refl
-zero_at (a ∷ l) h zero = zero_is a (and_left (is_zero a) (all_zero l) h)
+zero_at (a ∷ l) h zero = zero_yes a (and_left (is_zero a) (all_zero l) h)
 zero_at (a ∷ l) h (suc i) = zero_at l (and_right (is_zero a) (all_zero l) h) i
 
 -- a buffer of zeros behind a table reads as the table
@@ -52,7 +45,7 @@ zeros_behind l z f n i =
     let k = i - n in
     let e : i ≡ length (table f n) + k = rw (length_table f n) (omega (arith, h.0)) in
     let past : length (table f n) ≤ i = rw (length_table f n) h.0 in
-    ap (coord (over l f n)) e ∙ get_or-append-add (table f n) (drop n l) k (pos 0) ∙ get_or-drop n l k (pos 0) ∙ zero_at l z (n + k) ∙ sym (past_end (table f n) i past))
+    ap (coord (over l f n)) e ∙ get_or-append-add (table f n) (drop n l) k (pos 0) ∙ get_or-drop n l k (pos 0) ∙ zero_at l z (n + k) ∙ sym (get_or_past (table f n) i (pos 0) past))
     (λ h. over_at l f n i (pos 0) h.0 ∙ sym (table_at f (pos 0) 0 n i h.0 ∙ ap f (omega arith)))
 
 take_table : (l : List ℕ) (f : ℕ → ℕ) (n : ℕ) → take n (over l f n) ≡ table f n

@@ -1,3 +1,4 @@
 #![tactic(auto)]
 
 pub mod entries;
+pub mod workspace;

@@ -15,10 +15,13 @@ slice_bounds-deliver-end-in-Ok-2 c =
     let w = was_read _ _ _ _ c.read_job.ensures c.in-Ok.is in
     simp length-take (omega (arith, w.checks.roomp, c.read_job.auto.picks))
 
+pub invariant_of-deliver : goal.invariant_of-deliver
+invariant_of-deliver c = record { lent = read_lent (was_read _ _ _ _ c.read_job.ensures c.in-Ok.is) }
+
 pub deliver-requires : goal.deliver-requires
 deliver-requires c =
     let w = was_read _ _ _ _ c.read_job.ensures c.in-Ok.is in
-    (read_lent w, w.checks.few, c.requires)
+    (w.checks.few, c.requires)
 
 pub returns-in-Ok-clause-put : goal.returns-in-Ok-clause-put
 returns-in-Ok-clause-put c =

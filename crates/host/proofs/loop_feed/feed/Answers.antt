@@ -1,6 +1,5 @@
 -- Past the checks the loop can be told.
 use Rattle.std.proofs.lemmas.Result.{err_from_is_err_and}
-use Rattle.checks.proofs.Checking.{from_start}
 use Rattle.host.proofs.Feeding.{number_is, told_refused, told_feed, drawn}
 use Rattle.host.proofs.loop_feed.feed.Goals as goal
 
@@ -15,10 +14,10 @@ invariant_of-feed c =
     let a = c.args in
     let e = number_is a.n a.x.now a.y.now a.ring.now c.in_ok-first_four.ensures.number c.too_short-short.ensures in
     let o = c.in_ok-first_four.ensures.passed in
-    rw (from_start a.n) (record { drawn = drawn a.n a.x.now a.y.now a.ring.now e (rw (o.0, o.1, o.2) at c.in_ok-first_four.field-0.lent) })
+    record { drawn = drawn a.n a.x.now a.y.now a.ring.now e (rw (o.0, o.1, o.2) at c.in_ok-first_four.field-0.lent) }
 
 pub returns : goal.returns
 returns c =
     let a = c.args in
     let e = number_is a.n a.x.now a.y.now a.ring.now c.in_ok-first_four.ensures.number c.too_short-short.ensures in
-    told_feed a.n a.x.now a.y.now a.ring.now e (rw (from_start a.n) at c.feed.ensures)
+    told_feed a.n a.x.now a.y.now a.ring.now e c.feed.ensures

@@ -1,37 +1,38 @@
+-- The entry from a lent ring.
 use Rattle.std.proofs.Common.{rules}
-use mathlib.Core.Path.{◌≡◌, ap, refl, ◌∙◌}
-use Rattle.intersection_set.specs.Pool.{lent}
-use Rattle.checks.proofs.Checking.{from_start}
-use Rattle.two_opt.specs.Entry.{answer_of, refusal_of, Loan, loan}
-use Rattle.two_opt.proofs.Answering.{entry_refused, passing, exact_room, long_records, entry_parts, told_ended}
-use mathlib.Core.List.{List}
-use Prim.Native.Nat.{ℕ}
+use mathlib.Core.Path.{◌≡◌, refl}
+use native.Mathlib.Omega.{arith}
 use lib.ListN.{take}
+use Rattle.two_opt.specs.Entry.{answer_of, refusal_of}
+use Rattle.two_opt.specs.Lent.{loan_of}
+use Rattle.two_opt.proofs.Answering.{entry_refused, passing, ready, entry_ran}
 use Rattle.two_opt.proofs.entries.resolve_self_intersections.Goals as goal
 
-pub returns-in_err-points : goal.returns-in_err-points
-returns-in_err-points c =
+pub returns-in_err-points-clause-entry : goal.returns-in_err-points-clause-entry
+returns-in_err-points-clause-entry c =
     let a = c.args in
-    let given : Loan = loan a.ring.now a.index.now (lent a.heads.now a.ends.now a.links.now a.dense.now a.reverse.now a.free.now) in
-    let told : answer_of c.from_residual.result (take a.n a.ring.now) ≡ refusal_of c.in_err-points.field-0.0 (take a.n a.ring.now) = search rules in
-    rw told (entry_refused a.n a.x.now a.y.now (take a.n a.ring.now) a.picks.now given c.in_err-points.field-0.0 c.too_short-short.ensures c.in_err-points.ensures.number)
+    let g = c.given.ensures.points in
+    let ring = take a.n a.work.now.ring.now in
+    let told : answer_of c.from_residual.result ring ≡ refusal_of c.in_err-points.field-0.0 ring = search rules in
+    rw told (entry_refused a.n a.x.now a.y.now (take a.n a.work.now.ring.now) a.picks.now (loan_of a.work.now) c.in_err-points.field-0.0 c.given.ensures.short (rw (c.ring.ensures, g.0, g.1, g.2) at c.in_err-points.ensures.number))
 
-pub returns : goal.returns
-returns c =
+pub start_from_ring-requires : goal.start_from_ring-requires
+start_from_ring-requires c =
     let a = c.args in
-    let first : List ℕ = take a.n a.ring.now in
-    let given : Loan = loan a.ring.now a.index.now (lent a.heads.now a.ends.now a.links.now a.dense.now a.reverse.now a.free.now) in
-    let p = passing a.n a.x.now a.y.now given first c.too_short-short.ensures c.in_ok-points.ensures.number refl in
-    let new = c.run_from_ring-done.new in
-    let same = c.run_from_ring-done.auto in
-    let size = c.record_size-size.ensures in
-    let done = c.run_from_ring-done.result in
-    let parts : Loan = loan new.ring new.index (lent new.heads new.ends new.links new.dense new.reverse new.free) in
-    let room = exact_room a.n c.record_size-size.result given.records size (long_records a.n a.x.now a.y.now given p.accepted.long) in
-    entry_parts a.n c.record_size-size.result given parts size
-    (same.ring ∙ p.ring_part)
-    (same.index ∙ p.index_part)
-    (record { in_heads = same.heads ∙ room.in_heads; in_ends = same.ends ∙ room.in_ends; in_links = same.links ∙ room.in_links; in_dense = same.dense ∙ room.in_dense; in_reverse = same.reverse ∙ room.in_reverse; in_free = same.free ∙ room.in_free })
-    a.x.now a.y.now first a.picks.now c.answer_of.result p.ok
-    (told_ended c.in_ok-points.points c.in_ok-points.ensures.passed (ap (λ k. take k a.ring.now) (from_start a.n)) a.picks.now new.ring new.index parts.records done.moves done.cross done.left c.run_from_ring-done.ensures)
-    c.answer_of.ensures
+    let g = c.given.ensures.points in
+    let p = passing a.n a.x.now a.y.now (loan_of a.work.now) (take a.n a.work.now.ring.now) c.given.ensures.short (rw (c.ring.ensures, g.0, g.1, g.2) at c.in_ok-points.ensures.number) refl in
+    (omega (arith, p.accepted.few), p.enough, p.accepted.ring)
+
+pub resolve-requires : goal.resolve-requires
+resolve-requires c =
+    let a = c.args in
+    let g = c.given.ensures.points in
+    let p = passing a.n a.x.now a.y.now (loan_of a.work.now) (take a.n a.work.now.ring.now) c.given.ensures.short (rw (c.ring.ensures, g.0, g.1, g.2) at c.in_ok-points.ensures.number) refl in
+    ready c.in_ok-points.points (rw (g.0, g.1, g.2) at c.in_ok-points.ensures.passed) (take a.n a.work.now.ring.now) c.start_from_ring.ensures.started p.plain
+
+pub returns-clause-entry : goal.returns-clause-entry
+returns-clause-entry c =
+    let a = c.args in
+    let g = c.given.ensures.points in
+    let p = passing a.n a.x.now a.y.now (loan_of a.work.now) (take a.n a.work.now.ring.now) c.given.ensures.short (rw (c.ring.ensures, g.0, g.1, g.2) at c.in_ok-points.ensures.number) refl in
+    entry_ran c.in_ok-points.points (rw (g.0, g.1, g.2) at c.in_ok-points.ensures.passed) (take a.n a.work.now.ring.now) c.start_from_ring.ensures.started a.picks.now c.answer_of.result p.ok c.resolve.ensures.ran c.answer_of.ensures

@@ -6,10 +6,10 @@ use Rattle.geometry.specs.Lent.{points}
 use Rattle.polygon.specs.Ring.{IsRing}
 use Rattle.polygon.proofs.EachOnce.{each_ring}
 use Rattle.checks.proofs.Checking.{four_passed}
-use Rattle.checks.proofs.accept.check_ring.Goals as goal
+use Rattle.checks.proofs.accept.Given.check_ring.Goals as goal
 
 pub all_colinear-requires : goal.all_colinear-requires
 all_colinear-requires c =
-    let s = c.args in
-    let k = four_passed s.n (points s.x.now s.y.now) s.short (take s.n s.ring.now) (sym c.in_ok-points.ensures.number) in
-    subst⁻¹ (λ (m : ℕ). IsRing m (take s.n s.ring.now)) c.in_ok-points.ensures.passed.0 (each_ring s.n (take s.n s.ring.now) k.1)
+    let s = c.args.self in
+    let k = four_passed s.n (points s.x.now s.y.now) s.short (take s.n c.args.ring.now) (sym c.in_ok-points.ensures.number) in
+    subst⁻¹ (λ (m : ℕ). IsRing m (take s.n c.args.ring.now)) c.in_ok-points.ensures.passed.0 (each_ring s.n (take s.n c.args.ring.now) k.1)

@@ -1,0 +1,141 @@
+// What a call is lent to be written: ring, index and the buffers of the records. Check 2 says how many entries of each are needed; no other is read or written.
+ghost use Rattle.std.specs.Prelude.{◌≡◌, false, ◌<◌, ◌≤◌, take};
+ghost use Rattle.algebra.specs.Ranges.{up_from};
+ghost use Rattle.geometry.specs.Spots.{spots};
+ghost use Rattle.polygon.specs.Ring.{index_of, IsRing, Indexed};
+ghost use Rattle.intersection_set.specs.Pool.{lent};
+ghost use Rattle.intersection_set.specs.Within.{Room};
+ghost use Rattle.machine.specs.Machine.{begin as starting};
+ghost use Rattle.machine.specs.Answer.{refusal};
+ghost use Rattle.resolve.specs.Ended.{Counted, Ended};
+ghost use Rattle.two_opt.specs.Entry.{short_of};
+ghost use Rattle.two_opt.specs.Lent.{loan_of, SameWorkspace, Enough, Starting, RanIn};
+
+use checks::accept::{Given, record_size, too_short};
+use geometry::lent::Points;
+use intersection_set::intersection_set::IndexIntersectionSet;
+use intersection_set::utils::Counts;
+use polygon::polygon::{Polygon, identity, rebuild_index};
+use resolve::resolve::{Resolved, resolve};
+
+#[derive(Drop)]
+pub struct Workspace<'a> {
+    pub ring: &'a mut [u16],
+    pub index: &'a mut [u16],
+    pub heads: &'a mut [u16],
+    pub ends: &'a mut [u64],
+    pub links: &'a mut [u64],
+    pub dense: &'a mut [u16],
+    pub reverse: &'a mut [u16],
+    pub free: &'a mut [u16],
+}
+
+// A run from the ring, of which this is the index, its records in these buffers. It is lent exactly what check 2 asks for, so that no entry past it can be
+// reached; and it takes the slices one by one, since of parts that are lent to a field the prover does not say what they hold after it.
+fn resolve_in(
+    points: Points<'_>,
+    picks: &[u32],
+    ring: &mut [u16],
+    index: &mut [u16],
+    heads: &mut [u16],
+    ends: &mut [u64],
+    links: &mut [u64],
+    dense: &mut [u16],
+    reverse: &mut [u16],
+    free: &mut [u16],
+) -> Resolved
+    requires { let given = lent heads.old ends.old links.old dense.old reverse.old free.old in
+        Indexed points.n ring.old index.old × (refusal points.n (spots points) false ring.old ≡ 0) × Room points.n given }
+    ensures { let n = points.entry.n in
+        let pt = spots points.entry in
+        let first = (starting n pt ring.old).now in
+        let is = lent heads.new ends.new links.new dense.new reverse.new free.new in
+        Counted n pt first picks.now result.moves result.cross result.left × Ended n pt first picks.now ring.new index.new is }
+{
+    let counts = Counts {
+        live: 0,
+        grown: 0,
+        freed: 0,
+    };
+    let mut set = IndexIntersectionSet {
+        vertices: points.n,
+        heads,
+        ends,
+        links,
+        dense,
+        reverse,
+        free,
+        counts,
+    };
+    let mut polygon = Polygon { ring, index };
+    resolve(&mut set, points, &mut polygon, picks)
+}
+
+impl<'a> Workspace<'a> {
+    // A call with n points, with what check 2 says of it.
+    pub(crate) fn given<'p>(&self, n: usize, x: &'p [i32], y: &'p [i32]) -> Given<'p>
+        ensures points { (result.n ≡ n) × (result.x ≡ x.entry) × (result.y ≡ y.entry) }
+        ensures short { n ≤ 256 → result.short ≡ short_of n x.now y.now (loan_of self.now) }
+    {
+        let of_points = [x.len(), y.len(), self.ring.len(), self.index.len()];
+        let of_records = [
+            self.heads.len(),
+            self.ends.len(),
+            self.links.len(),
+            self.dense.len(),
+            self.reverse.len(),
+            self.free.len(),
+        ];
+        let short = too_short(n, &of_points, &of_records);
+        Given { n, x, y, short }
+    }
+
+    // The ring alone.
+    pub(crate) fn ring(&self) -> &[u16]
+        ensures { result.now ≡ self.now.ring.now }
+    {
+        self.ring
+    }
+
+    // The points in their own order. What ring and index held is not read.
+    pub(crate) fn start_in_order(&mut self, n: usize)
+        requires { (n < 65536) × Enough n (loan_of self.old) }
+        ensures same { SameWorkspace self.old self.new }
+        ensures started { Starting n (up_from 0 n) (loan_of self.old) (loan_of self.new) }
+    {
+        identity(&mut self.ring[..n], &mut self.index[..n]);
+    }
+
+    // The index of the ring. What it held is not read. The ring is lent by `&mut` too: the prover lends no field to be read beside one to be written.
+    pub(crate) fn start_from_ring(&mut self, n: usize)
+        requires { (n < 65536) × Enough n (loan_of self.old) × IsRing n (take n self.old.ring.now) }
+        ensures same { SameWorkspace self.old self.new }
+        ensures started { Starting n (take n self.old.ring.now) (loan_of self.old) (loan_of self.new) }
+    {
+        rebuild_index(&mut self.ring[..n], &mut self.index[..n]);
+    }
+
+    // A run from the ring that the first entries of `ring` and `index` hold.
+    pub(crate) fn resolve(&mut self, points: Points<'_>, picks: &[u32]) -> Resolved
+        requires { let n = points.n in
+            let start = take n self.old.ring.now in
+            Enough n (loan_of self.old) × (take n self.old.index.now ≡ index_of n start) × (refusal n (spots points) false start ≡ 0) }
+        ensures same { SameWorkspace self.old self.new }
+        ensures ran { RanIn points.entry.n (spots points.entry) picks.now (loan_of self.old) (loan_of self.new) result }
+    {
+        let n = points.n;
+        let size = record_size(n);
+        resolve_in(
+            points,
+            picks,
+            &mut self.ring[..n],
+            &mut self.index[..n],
+            &mut self.heads[..size],
+            &mut self.ends[..size],
+            &mut self.links[..size],
+            &mut self.dense[..size],
+            &mut self.reverse[..size],
+            &mut self.free[..size],
+        )
+    }
+}
