@@ -18,7 +18,8 @@ use Rattle.job.specs.declared.reader.Counts.{Counts}
 use Rattle.refusal.specs.declared.Refusal.{Refusal}
 use Rattle.refusal.specs.Number.{number_of}
 use Rattle.std.proofs.Common.{eqb, Result, Ok, Err}
-use Rattle.job.proofs.Refusals.{Accepted, accepted_job, some_number}
+use Rattle.refusal.proofs.Numbers.{some_number}
+use Rattle.job.proofs.Refusals.{Accepted, accepted_job}
 use Rattle.job.proofs.Written.{over_at, length_over}
 
 -- A job that was read: n points and m picks stand at the buffers' start, and it passed every check.
@@ -65,7 +66,7 @@ module _ (job : List ℕ) (x y : List ℤ) (picks : List ℕ) {r : Result Counts
       let some : eqb (refusal job (length x) (length y) (length picks)) 0 ≡ false = grind (arith, some_number e) in
       record {
         number = number;
-        some = some_number e;
+        some = λ z. let k = some_number e in omega (arith, z, k);
         xs = rw some at g.xs;
         ys = rw some at g.ys;
         ps = rw some at g.ps;

@@ -17,8 +17,8 @@ use Rattle.job.specs.Buffers.{over}
 use Rattle.job.specs.Job.{point_count, point_start, pick_count, pick_start, x_at, y_at, pick_at, outside, SharesBytes, shares_bytes, in_range, decide, refusal, accepted, answer, Reading}
 use Rattle.std.proofs.Common.{Ok, Err, ◌⊎◌, inl, inr}
 use Rattle.refusal.specs.declared.Refusal.{Refusal}
-use Rattle.refusal.specs.declared.Refusal.TheVariants.{ManyPoints}
 use Rattle.refusal.specs.Number.{number_of}
+use Rattle.refusal.proofs.Numbers.{some_number}
 use Rattle.job.proofs.TwosComplement.{Bytes, word_range}
 use Rattle.job.proofs.Rounding.{step_range}
 use Rattle.job.proofs.Areas.{shares_decides}
@@ -127,10 +127,6 @@ unfolding refusal decide
 never_eight job nx ny np h = grind arith
 
 -- ---- the two answers of the reader
-pub some_number : (r : Refusal) → number_of r ≡ 0 → ⊥
-some_number ManyPoints e = omega (arith, e)
-some_number r e = omega (arith, e)
-
 pub refused_reading : (job : List ℕ) (x y : List ℤ) (picks : List ℕ) (r : Refusal) → number_of r ≡ refusal job (length x) (length y) (length picks)
     → Reading job x y picks (Err r) x y picks
 unfolding answer accepted

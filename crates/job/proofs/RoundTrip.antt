@@ -12,12 +12,12 @@ use lib.IntN.{ℤ, pos}
 use lib.Signed.{mag}
 use borrow.Author.Tests.{eq-eqb}
 use Rattle.algebra.specs.Ranges.{up_from}
-use Rattle.geometry.specs.Answers.{answered}
+use Rattle.geometry.specs.Answers.{answered, told}
 use Rattle.geometry.specs.Lent.{coord}
 use Rattle.job.specs.Words.{word, signed, bits_of}
 use Rattle.job.specs.Steps.{steps}
 use Rattle.job.specs.Buffers.{over}
-use Rattle.job.specs.Job.{point_count, point_start, pick_count, pick_start, total, x_in, y_in, pick_at, outside, shares_bytes, refusal, accepted, answer, outcome_of, Reading}
+use Rattle.job.specs.Job.{point_count, point_start, pick_count, pick_start, total, x_in, y_in, pick_at, outside, shares_bytes, refusal, accepted, answer, Reading}
 use Rattle.job.specs.Encoded.{header, pairs, job_of, Made}
 use Rattle.job.specs.declared.reader.Counts.{Counts}
 use Rattle.refusal.specs.declared.Refusal.{Refusal}
@@ -163,7 +163,7 @@ module _ {x y : List ℤ} {picks : List ℕ} (made : Encodable x y picks) where
 
 -- What the reader answers and leaves for a job of the points x, y and the picks: their steps and the picks at the start of X, Y and Q.
 pub record Back (x y : List ℤ) (picks : List ℕ) (X Y : List ℤ) (Q : List ℕ) (r : Result Counts Refusal) (X' Y' : List ℤ) (Q' : List ℕ) : Type 0 where
-  pub answers : outcome_of r ≡ answered (record { points = length x; picks = length picks })
+  pub answers : told r ≡ answered (record { points = length x; picks = length picks })
   pub xs : X' ≡ map steps x ++ drop (length x) X
   pub ys : Y' ≡ map steps y ++ drop (length x) Y
   pub qs : Q' ≡ picks ++ drop (length picks) Q

@@ -2,45 +2,26 @@
 -- count can be. What is nearest is shown for numbers from 0 on; the rest is its mirror image.
 use mathlib.Core.Path.{◌≡◌, refl, sym, ap, ◌∙◌}
 use mathlib.Core.Logic.{◌≢◌}
-use Prim.Native.Nat.{ℕ, zero, suc, ◌+◌, ◌-◌, ◌*◌, ◌^◌, ◌≤◌, ◌<◌}
+use Prim.Native.Nat.{ℕ, zero, suc, ◌-◌, ◌^◌, ◌≤◌, ◌<◌}
 use native.Mathlib.Omega.{arith}
-use lib.IntN.{ℤ, pos, negsuc, neg_ℤ, nat_abs, neg_ℤ-neg_ℤ, ◌-ℤ◌, ◌*ℤ◌}
+use lib.IntN.{ℤ, pos, negsuc, neg_ℤ, nat_abs, neg_ℤ-neg_ℤ, ◌-ℤ◌}
 use lib.Signed.{mag}
 use mir.Syntax.{w32}
 use mir.Val.{to_z, of_z}
-use mir.ValLaws.{to_z-of_z, to_z_pos}
-use Rattle.algebra.specs.Integers.{P, N, Is, is_self, is_cast, is_neg, is_add, is_mul, is_eq}
-use Rattle.algebra.specs.Size.{abs}
+use mir.ValLaws.{to_z_pos}
+use borrow.Author.Differences.{ints}
+use Rattle.algebra.specs.Size.{abs, abs_is}
 use Rattle.algebra.specs.Cases.{both, le_cases}
 use Rattle.job.specs.Words.{signed, bits_of}
 use Rattle.job.specs.Steps.{distance, Nearest, tenth, steps}
-use Rattle.job.proofs.TwosComplement.{signed_low, signed_high, signed_bits, neg_fits, less, less_fits}
-
--- ---- the distance in ℕ
-size_is : (z : ℤ) (a b : ℕ) → Is z a b → nat_abs z ≡ (a - b) + (b - a)
-size_is (pos n) a b h = omega (arith, h.is)
-size_is (negsuc n) a b h = omega (arith, h.is)
-
-distance_is : (v s : ℤ) → distance v s ≡ (P v + 10 * N s - (N v + 10 * P s)) + (N v + 10 * P s - (P v + 10 * N s))
-distance_is v s =
-    size_is (v -ℤ pos 10 *ℤ s) (P v + 10 * N s) (N v + 10 * P s)
-    (is_cast (is_add (is_self v) (is_neg (is_mul (is_self (pos 10)) (is_self s)))) (omega arith))
+use Rattle.job.proofs.TwosComplement.{signed_low, signed_high, signed_bits}
 
 -- ---- both sides of 0
 nat_abs_neg : (z : ℤ) → nat_abs (neg_ℤ z) ≡ nat_abs z
-nat_abs_neg (pos zero) = refl
-nat_abs_neg (pos (suc n)) = refl
-nat_abs_neg (negsuc n) = refl
+nat_abs_neg z = omega (arith, ints)
 
 distance_mirror : (v s : ℤ) → distance (neg_ℤ v) (neg_ℤ s) ≡ distance v s
-distance_mirror v s = ap nat_abs e ∙ nat_abs_neg (v -ℤ pos 10 *ℤ s)
-  where
-    e : neg_ℤ v -ℤ pos 10 *ℤ neg_ℤ s ≡ neg_ℤ (v -ℤ pos 10 *ℤ s)
-    e =
-        is_eq
-        (is_add (is_neg (is_self v)) (is_neg (is_mul (is_self (pos 10)) (is_neg (is_self s)))))
-        (is_neg (is_add (is_self v) (is_neg (is_mul (is_self (pos 10)) (is_self s)))))
-        (omega arith)
+distance_mirror v s = omega (arith, ints)
 
 -- what is nearest to -v is the negative of what is nearest to v
 pub nearest_mirror : {v s : ℤ} → Nearest v s → Nearest (neg_ℤ v) (neg_ℤ s)
@@ -68,12 +49,12 @@ nearest_above n = record { nearest = nearest; farther = farther }
     s = tenth n
 
     nearest : (t : ℤ) → distance (pos n) (pos s) ≤ distance (pos n) t
-    nearest (pos t) = omega (arith, distance_is (pos n) (pos s), distance_is (pos n) (pos t))
-    nearest (negsuc t) = omega (arith, distance_is (pos n) (pos s), distance_is (pos n) (negsuc t))
+    nearest (pos t) = omega (arith, ints)
+    nearest (negsuc t) = omega (arith, ints)
 
     farther : (t : ℤ) → distance (pos n) t ≡ distance (pos n) (pos s) → nat_abs t ≤ s
-    farther (pos t) e = omega (arith, distance_is (pos n) (pos s), distance_is (pos n) (pos t), e)
-    farther (negsuc t) e = omega (arith, distance_is (pos n) (pos s), distance_is (pos n) (negsuc t), e)
+    farther (pos t) e = omega (arith, ints)
+    farther (negsuc t) e = omega (arith, ints)
 
 pub steps_nearest : (v : ℤ) → Nearest v (steps v)
 unfolding steps
@@ -82,7 +63,7 @@ steps_nearest (negsuc n) = nearest_mirror (nearest_above (suc n))
 
 -- 0 is nearer than any negative number
 not_below : (n b : ℕ) → Nearest (pos n) (negsuc b) → ⊥
-not_below n b h = omega (arith, h.nearest (pos 0), distance_is (pos n) (pos 0), distance_is (pos n) (negsuc b))
+not_below n b h = omega (arith, ints, h.nearest (pos 0))
 
 only_above : (n : ℕ) (s t : ℤ) → Nearest (pos n) s → Nearest (pos n) t → s ≡ t
 only_above n (negsuc a) t h k = absurd (not_below n a h)
@@ -118,7 +99,7 @@ word_mirror w h k = ap steps (signed_bits (neg_ℤ (signed w)) small) ∙ steps_
     small =
         both (le_cases (2 ^ 31) w)
         (λ g. rw (signed_high w g.0 h) (omega (arith, k, g.0)))
-        (λ g. rw (signed_low w g.0) (neg_fits w g.0).sfits)
+        (λ g. rw (signed_low w g.0) (omega (arith, ints, g.0)))
 
 -- what `step_of` answers for the two words, from its contract
 pub step_of_mirror : (w : ℕ) {r r' : ℤ} → w < 2 ^ 32 → w ≢ 2 ^ 31 → r ≡ steps (signed w) → r' ≡ steps (signed (bits_of (neg_ℤ (signed w)))) → r' ≡ neg_ℤ r
@@ -134,12 +115,11 @@ unfolding steps
 step_high w q h k e =
     let b : q < 2 ^ 31 = omega arith in
     let same : tenth (suc (4294967295 - w)) ≡ q = omega arith in
-    rw (signed_high w h k, same) (to_z-of_z w32 _ (less_fits q b) ∙ less q b)
+    rw (signed_high w h k, same) (omega (arith, ints))
 
 -- ---- a word is at most 214,748,365 steps from 0
 abs_neg : (n : ℕ) → abs (neg_ℤ (pos n)) ≤ n
-abs_neg zero = omega arith
-abs_neg (suc n) = omega arith
+abs_neg n = omega (arith, ints, abs_is (neg_ℤ (pos n)))
 
 pub step_range : (w : ℕ) → w < 2 ^ 32 → abs (steps (signed w)) ≤ 214748365
 unfolding steps

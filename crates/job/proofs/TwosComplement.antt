@@ -1,14 +1,14 @@
 -- Words in two's complement, and the machine's signed numbers without their sign.
 use mathlib.Core.Path.{◌≡◌, refl, ap, ◌∙◌}
 use mathlib.Core.List.{List}
-use Prim.Native.Nat.{ℕ, zero, suc, ◌+◌, ◌-◌, ◌^◌, ◌≤◌, ◌<◌}
+use Prim.Native.Nat.{ℕ, suc, ◌+◌, ◌-◌, ◌^◌, ◌≤◌, ◌<◌}
 use native.Mathlib.Omega.{arith}
 use lib.ListN.{get_or}
 use lib.Signed.{mag}
-use lib.IntN.{ℤ, pos, negsuc, neg_ℤ, ◌-ℤ◌, +ℤ_idl}
+use lib.IntN.{ℤ, pos, negsuc}
 use mir.Syntax.{w32}
 use mir.Val.{SFits, to_z, of_z}
-use mir.ValLaws.{to_z-of_z, to_z_pos}
+use mir.ValLaws.{to_z-of_z}
 use borrow.Author.Tests.{lt-ltb, le-ltb}
 use Rattle.job.specs.Words.{word, signed, bits_of}
 
@@ -40,17 +40,6 @@ pub record Bytes (l : List ℕ) : Type 0 where
 pub word_range : (l : List ℕ) (i : ℕ) → Bytes l → word l i < 2 ^ 32
 unfolding word
 word_range l i b = omega (arith, b.byte i, b.byte (i + 1), b.byte (i + 2), b.byte (i + 3))
-
--- ---- the machine's negation
-pub neg_fits : (n : ℕ) → n < 2 ^ 31 → SFits w32 (neg_ℤ (pos n))
-neg_fits zero h = record { sfits = omega arith }
-neg_fits (suc n) h = record { sfits = omega arith }
-
-pub less : (n : ℕ) → n < 2 ^ 31 → pos 0 -ℤ to_z w32 n ≡ neg_ℤ (pos n)
-less n h = rw (to_z_pos w32 n h) (+ℤ_idl (neg_ℤ (pos n)))
-
-pub less_fits : (n : ℕ) → n < 2 ^ 31 → SFits w32 (pos 0 -ℤ to_z w32 n)
-less_fits n h = rw (less n h) (neg_fits n h)
 
 -- ---- the word of a number, as the machine has it
 bits_is : (z : ℤ) → of_z w32 z ≡ bits_of z

@@ -6,6 +6,7 @@ use native.Mathlib.Numerals.{add-one}
 use native.Mathlib.Omega.{arith}
 use lib.ListN.{length, get_or, take, drop, set, length-append, length-drop, length-map, get_or-append}
 use lib.Seq.{drop-cons, drop-drop, set_at, sets, sets-eq, length-sets, ext_get_or}
+use Rattle.std.proofs.lemmas.List.{drop-take}
 use Rattle.algebra.specs.Ranges.{up_from, up_from_length, table_at}
 use Rattle.job.specs.Buffers.{over, put, Put}
 
@@ -46,6 +47,14 @@ module _ {A : Type 0} where
   -- a turn of a loop that writes one entry after the other, and its end
   pub over_step : (l : List A) (f : ℕ → A) {m : List A} {n : ℕ} {v : A} → m ≡ over l f n → n < length l → v ≡ f n → set m n v ≡ over l f (n + 1)
   over_step l f {m} {n} {v} e h g = rw (e, g) (over_next l f n h)
+
+  -- written over a part from the start on, with what is behind that part
+  pub over_front : (l : List A) (f : ℕ → A) {m : List A} {n k : ℕ} → m ≡ over (take n l) f k → k ≡ n → m ++ drop n l ≡ over l f n
+  unfolding over
+  over_front l f {m} {n} e h =
+      let none : drop n (take n l) ≡ [] = ap (λ k. drop n (take k l)) (omega arith) ∙ drop-take n 0 l in
+      ap (λ (t : List A). t ++ drop n l) (e ∙ ap (λ k. over (take n l) f k) h ∙ ap (λ (t : List A). table f n ++ t) none)
+      ∙ append_assoc (table f n) [] (drop n l)
 
   pub over_at : (l : List A) (f : ℕ → A) (n i : ℕ) (d : A) → i < n → get_or (over l f n) i d ≡ f i
   unfolding over

@@ -1,15 +1,14 @@
 -- The job file, and what the reader makes of it.
-use Rattle.std.specs.Prelude.{◌≡◌, Bool, not, ◌&&◌, ◌||◌, cond, List, ℕ, ◌+◌, ◌*◌, ◌≤◌, ◌<◌, length, ltb, eqb, ℤ, Result, Ok, Err}
+use Rattle.std.specs.Prelude.{◌≡◌, Bool, not, ◌&&◌, ◌||◌, cond, List, ℕ, ◌+◌, ◌*◌, ◌≤◌, ◌<◌, length, ltb, eqb, ℤ, Result}
 use Rattle.algebra.specs.Ranges.{all_below}
 use Rattle.geometry.specs.Plane.{near}
-use Rattle.geometry.specs.Answers.{Answer, refused, answered}
+use Rattle.geometry.specs.Answers.{Answer, refused, answered, told}
 use Rattle.job.specs.Words.{word, signed}
 use Rattle.job.specs.Steps.{steps}
 use Rattle.job.specs.Buffers.{over}
 use Rattle.job.specs.declared.reader.Counts.{Counts}
 use Rattle.job.specs.declared.reader.Header.{Header}
 use Rattle.refusal.specs.declared.Refusal.{Refusal}
-use Rattle.refusal.specs.Number.{number_of}
 
 -- ---- the five words at the start
 abbrev pub point_count : List ℕ → ℕ
@@ -88,11 +87,6 @@ refusal job nx ny np =
     decide (length job) (point_count job) (point_start job) (pick_count job) (pick_start job) (total job) (in_range job) nx ny np
 
 -- ---- answer and buffers
--- The code's answer in these words: a refusal's number, or the counts.
-abbrev pub outcome_of : Result Counts Refusal → Answer Counts
-outcome_of (Ok counts) = answered counts
-outcome_of (Err refusal) = refused (number_of refusal)
-
 unfoldable pub accepted : (job : List ℕ) (nx ny np : ℕ) → Bool
 accepted job nx ny np = eqb (refusal job nx ny np) 0
 
@@ -102,7 +96,7 @@ answer job nx ny np =
 
 -- What the reader answers and leaves: steps and picks of an accepted job at the buffers' start, and nothing past them; else all as it was.
 pub record Reading (job : List ℕ) (x y : List ℤ) (picks : List ℕ) (r : Result Counts Refusal) (x' y' : List ℤ) (picks' : List ℕ) : Type 0 where
-  pub answers : outcome_of r ≡ answer job (length x) (length y) (length picks)
+  pub answers : told r ≡ answer job (length x) (length y) (length picks)
   pub xs : x' ≡ cond (accepted job (length x) (length y) (length picks)) (over x (x_at job) (point_count job)) x
   pub ys : y' ≡ cond (accepted job (length x) (length y) (length picks)) (over y (y_at job) (point_count job)) y
   pub ps : picks' ≡ cond (accepted job (length x) (length y) (length picks)) (over picks (pick_at job) (pick_count job)) picks

@@ -2,11 +2,12 @@
 ghost use Rattle.job.specs.Feed.{Drawn};
 
 use geometry::distance::squared_euclidean_distance;
-use geometry::point::Point;
+use geometry::point::{NearPoint, Point};
 use integer_root::integer_root;
 use polygon::position::next_place;
 
-// A loop that can be told: position i is on point number ring[i], which is lent at x and y and within the limits.
+// A loop that can be told: position i is on point number ring[i], which is lent at x and y and within the limits. Not over `Points`: the points that it does
+// not name may be any, and more than 256.
 #[derive(Clone, Copy)]
 pub struct Loop<'a> {
     pub x: &'a [i32],
@@ -17,7 +18,7 @@ pub struct Loop<'a> {
 
 impl<'a> Loop<'a> {
     ghost use Rattle.std.specs.Prelude.{◌≡◌, ◌<◌, [], length};
-    ghost use Rattle.geometry.specs.Lent.{spot, InRange};
+    ghost use Rattle.geometry.specs.Lent.{spot};
     ghost use Rattle.polygon.specs.Ring.{at};
     ghost use Rattle.job.specs.Feed.{edge_feed, feed_of};
     ghost use Rattle.job.specs.Loops.{spots};
@@ -34,16 +35,16 @@ impl<'a> Loop<'a> {
     }
 
     // The point at position i.
-    pub fn at(self, i: usize) -> Point
+    pub fn at(self, i: usize) -> NearPoint
         requires { i < length self.ring.now }
-        ensures place { spot result ≡ spots self.entry (at self.entry.ring.now i) }
-        ensures near { InRange (spot result) }
+        ensures { spot result.point ≡ spots self.entry (at self.entry.ring.now i) }
     {
         let k = self.ring[i] as usize;
-        Point {
+        let point = Point {
             x: self.x[k],
             y: self.y[k],
-        }
+        };
+        NearPoint { point }
     }
 
     // The edge from position i to the next.

@@ -48,6 +48,14 @@ impl Area {
     }
 }
 
+// How many places the buffers for x, for y and for the picks have.
+#[derive(Clone, Copy)]
+struct Room {
+    x: usize,
+    y: usize,
+    picks: usize,
+}
+
 // The five words at the start of a job.
 #[derive(Clone, Copy)]
 struct Header {
@@ -59,14 +67,14 @@ struct Header {
 }
 
 impl Header {
-    // The checks behind that of the length, by the places for x, y and picks. Check 3 is not made: a word is less than 2³² micrometres,
-    // so its steps are always within the range.
+    // The checks 10 to 13, and then 2 by the room in the buffers. Check 3 is not made: a word is less than 2³² micrometres, so its steps
+    // are always within the range.
     #[tactic(auto, unfolding(crate::specs::Job::decide, crate::specs::Job::outside))]
-    fn check(self, len: usize, nx: usize, ny: usize, np: usize) -> Result<(), Refusal>
+    fn check(self, len: usize, room: Room) -> Result<(), Refusal>
         requires { (20 ≤ len) × (len ≤ 16384) × (self.point_start < 2 ^ 32) × (self.picks < 2 ^ 32) × (self.pick_start < 2 ^ 32) }
-        ensures number { refused result ≡ decide len self.points self.point_start self.picks self.pick_start self.total true nx ny np }
+        ensures number { refused result ≡ decide len self.points self.point_start self.picks self.pick_start self.total true room.x room.y room.picks }
         ensures within { OnOk result ((self.point_start + 8 * self.points ≤ len) × (self.pick_start + 4 * self.picks ≤ len)) }
-        ensures room { OnOk result ((self.points ≤ nx) × (self.points ≤ ny) × (self.picks ≤ np)) }
+        ensures fits { OnOk result ((self.points ≤ room.x) × (self.points ≤ room.y) × (self.picks ≤ room.picks)) }
     {
         if self.total != len {
             return Err(Refusal::TotalLength);
@@ -88,7 +96,7 @@ impl Header {
         if points.shares_bytes(picks) {
             return Err(Refusal::SharedBytes);
         }
-        if nx < self.points || ny < self.points || np < self.picks {
+        if room.x < self.points || room.y < self.points || room.picks < self.picks {
             return Err(Refusal::ShortBuffer);
         }
         Ok(())
@@ -122,17 +130,18 @@ fn fill<T: Copy, F: Fn(usize) -> T>(out: &mut [T], n: usize, read: F)
     requires gives { (i : ℕ) (r : _) → i < n → F.post read i r → r ≡ entry i }
     ensures { out.new ≡ over out.old entry n }
 {
-    for i in 0..n {
-        out[i] = read(i);
+    let part = &mut out[..n];
+    for (i, place) in part.iter_mut().enumerate() {
+        *place = read(i);
     }
 }
 
 // The header of a job that no check refuses, or the first refusal.
-fn accepted_header(job: &[u8], nx: usize, ny: usize, np: usize) -> Result<Header, Refusal>
-    ensures number { refused result ≡ refusal_of job.now nx ny np }
+fn accepted_header(job: &[u8], room: Room) -> Result<Header, Refusal>
+    ensures number { refused result ≡ refusal_of job.now room.x room.y room.picks }
     ensures words { IfOk result (λ h. h ≡ header_of job.now) }
     ensures within { IfOk result (λ h. (h.point_start + 8 * h.points ≤ length job.now) × (h.pick_start + 4 * h.picks ≤ length job.now)) }
-    ensures room { IfOk result (λ h. (h.points ≤ nx) × (h.points ≤ ny) × (h.picks ≤ np)) }
+    ensures fits { IfOk result (λ h. (h.points ≤ room.x) × (h.points ≤ room.y) × (h.picks ≤ room.picks)) }
 {
     if job.len() < 20 || 16384 < job.len() {
         return Err(Refusal::JobLength);
@@ -144,7 +153,7 @@ fn accepted_header(job: &[u8], nx: usize, ny: usize, np: usize) -> Result<Header
         pick_start: word_at(job, 12) as usize,
         total: word_at(job, 16) as usize,
     };
-    header.check(job.len(), nx, ny, np)?;
+    header.check(job.len(), room)?;
     Ok(header)
 }
 
@@ -157,7 +166,12 @@ pub fn read_job(
 ) -> Result<Counts, Refusal>
     ensures { Reading job.now x.old y.old picks.old result x.new y.new picks.new }
 {
-    let header = accepted_header(job, x.len(), y.len(), picks.len())?;
+    let room = Room {
+        x: x.len(),
+        y: y.len(),
+        picks: picks.len(),
+    };
+    let header = accepted_header(job, room)?;
     fill(
         x,
         header.points,

@@ -13,7 +13,7 @@ use super::writer::Writer;
 use geometry::point::Point;
 use refusal::Refusal;
 
-// What is told of a delivered loop: the moves made, and the records at the start.
+// What is told of a delivered loop: the moves made, and the records at the start. Not the planner's own answer, which this crate knows nothing of.
 #[derive(Clone, Copy, Debug, PartialEq, Eq)]
 pub struct Summary {
     pub moves: usize,
@@ -44,7 +44,7 @@ fn put_line(w: &mut Writer, text: &[u8], v: u64)
     w.text(b"\n");
 }
 
-// The line `refused K`, or `refused 8 left L`.
+// The line `refused K`, or `refused 8 left L`, of which the words before L are one text.
 fn put_refusal(w: &mut Writer, refusal: Refusal)
     requires { HasRoom w.old 36 }
     ensures { Wrote w.old w.new (refusal_line refusal) }
@@ -73,7 +73,7 @@ fn put_points(w: &mut Writer, told: Loop)
     ensures { Wrote w.old w.new (point_lines (spots told.entry) told.entry.ring.now (length told.entry.ring.now)) }
 {
     for i in 0..told.ring.len() {
-        put_point(w, told.at(i));
+        put_point(w, told.at(i).point);
     }
 }
 

@@ -1,5 +1,5 @@
 -- What a field of a line means as a number.
-use Rattle.std.specs.Prelude.{Bool, false, cond, List, [], ◌∷◌, ℕ, ◌+◌, ◌-◌, ◌*◌, ◌^◌, min, drop, eqb, leb, ltb, ℤ, pos, neg_ℤ, Option, Some, None, Result, Ok, Err}
+use Rattle.std.specs.Prelude.{Bool, false, cond, List, [], ◌∷◌, ℕ, ◌+◌, ◌-◌, ◌*◌, ◌^◌, min, drop, eqb, leb, ltb, ℤ, pos, neg_ℤ, Result, Ok, Err}
 use Rattle.job.specs.Decimal.{all_digits, value}
 use Rattle.makejob.specs.declared.number.NumberError.{NumberError}
 use Rattle.makejob.specs.declared.number.NumberError.TheVariants as error
@@ -55,10 +55,6 @@ capped (number n) = number (min n cap)
 -- one digit more, up to the cap
 abbrev pub shifted : ℕ → ℕ → ℕ
 shifted v d = min (10 * v + (d - 48)) cap
-
-abbrev pub natural_of : Option ℕ → Parsed ℕ
-natural_of (Some v) = number v
-natural_of None = malformed
 
 abbrev pub parsed_of : {A : Type 0} → Result A NumberError → Parsed A
 parsed_of (Ok v) = number v

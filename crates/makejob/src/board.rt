@@ -7,13 +7,14 @@ use super::generator::draw;
 use super::line::{Line, read_line};
 use arrayvec::ArrayVec;
 
-// The points and the picks so far: they make a job. The coordinates are apart, as the encoder takes them.
+// The points and the picks so far: they make a job. The coordinates are apart: the encoder's public promise is over two lists, of any
+// lengths.
 #[derive(Drop)]
 pub struct Board {
     pub x: ArrayVec<i32, 48>,
     pub y: ArrayVec<i32, 48>,
     pub picks: ArrayVec<u32, 4096>,
-    // Whether a line `picks` gave the picks.
+    // Whether a line `picks` gave the picks: one that gives none bars others too.
     drawn: bool,
     pub ghost fits: { Fits (array_vec_len x) (array_vec_len y) (array_vec_len picks) },
 }

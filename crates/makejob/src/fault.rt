@@ -1,4 +1,4 @@
-// Why a text makes no job.
+// Why a text makes no job. The first two are a number's, `NumberError`, whose reader knows of no others.
 ghost use Rattle.std.specs.Prelude.{◌≡◌};
 ghost use Rattle.makejob.specs.Faults.{fault_of};
 

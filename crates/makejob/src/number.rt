@@ -2,7 +2,7 @@
 ghost use Rattle.std.specs.Prelude.{◌≡◌, fold};
 ghost use Rattle.std.specs.List.{list_all};
 ghost use Rattle.std.specs.Char.{is_ascii_digit};
-ghost use Rattle.makejob.specs.Numbers.{capped, natural_of, parsed_of};
+ghost use Rattle.makejob.specs.Numbers.{capped, parsed_of};
 ghost use Rattle.makejob.specs.Numbers.{natural, word, coordinate};
 ghost use Rattle.makejob.specs.Numbers.{shifted as shifted_to};
 ghost use Rattle.makejob.specs.declared.number.NumberError.TheVariants.{OutOfRange};
@@ -46,21 +46,20 @@ fn value_of(digits: &[u8]) -> u64
 }
 
 #[tactic(auto, using(crate::proofs::Capped::fields))]
-fn read_natural(field: &[u8]) -> Option<u64>
-    ensures { natural_of result ≡ capped (natural field.now) }
+fn read_natural(field: &[u8]) -> Result<u64, NumberError>
+    ensures { parsed_of result ≡ capped (natural field.now) }
 {
     if field.is_empty() || !all_digits(field) {
-        return None;
+        return Err(NumberError::Malformed);
     }
-    Some(value_of(field))
+    Ok(value_of(field))
 }
 
 // An unsigned number of 32 bits.
 pub fn read_word(field: &[u8]) -> Result<u32, NumberError>
     ensures { parsed_of result ≡ word field.now }
 {
-    let n = read_natural(field).ok_or(NumberError::Malformed)?;
-    Ok(u32::try_from(n)?)
+    Ok(u32::try_from(read_natural(field)?)?)
 }
 
 // A signed number of 32 bits.
@@ -69,12 +68,9 @@ pub fn read_coordinate(field: &[u8]) -> Result<i32, NumberError>
 {
     match field {
         [b'-', digits @ ..] => {
-            let n = read_natural(digits).ok_or(NumberError::Malformed)?;
+            let n = read_natural(digits)?;
             Ok(i32::try_from(-(n as i64))?)
         }
-        _ => {
-            let n = read_natural(field).ok_or(NumberError::Malformed)?;
-            Ok(i32::try_from(n)?)
-        }
+        _ => Ok(i32::try_from(read_natural(field)?)?),
     }
 }

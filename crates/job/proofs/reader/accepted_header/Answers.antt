@@ -11,11 +11,11 @@ pub returns-in_err-check-clause-number : goal.returns-in_err-check-clause-number
 returns-in_err-check-clause-number c =
     let a = c.args in
     let p = err_from_is_err_and c.from_residual.result c.from_residual.ensures.1 in
-    of_words a.job.now _ _ _ _ _ a.nx a.ny a.np (record { byte = λ i. omega (arith, c.type_inv.job i) })
+    of_words a.job.now _ _ _ _ _ a.room.x a.room.y a.room.picks (record { byte = λ i. omega (arith, c.type_inv.job i) })
     c.word_at.ensures c.word_at-2.ensures c.word_at-3.ensures c.word_at-4.ensures c.word_at-5.ensures (rw (p.1, p.2) (rw c.in_err-check.was at c.check.ensures.number))
 
 pub returns-clause-number : goal.returns-clause-number
 returns-clause-number c =
     let a = c.args in
-    of_words a.job.now _ _ _ _ _ a.nx a.ny a.np (record { byte = λ i. omega (arith, c.type_inv.job i) })
+    of_words a.job.now _ _ _ _ _ a.room.x a.room.y a.room.picks (record { byte = λ i. omega (arith, c.type_inv.job i) })
     c.word_at.ensures c.word_at-2.ensures c.word_at-3.ensures c.word_at-4.ensures c.word_at-5.ensures (rw c.in_ok-check.was at c.check.ensures.number)

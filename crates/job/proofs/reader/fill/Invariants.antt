@@ -4,4 +4,4 @@ use Rattle.job.specs.Buffers.{over}
 use Rattle.job.proofs.reader.fill.Given as goal
 
 abbrev pub invariant-loop-i : goal.invariant-loop-i
-invariant-loop-i g l = l.out ≡ over l.initial.out g.entry l.i
+invariant-loop-i g l = l.part ≡ over l.initial.part g.entry l.i

@@ -14,4 +14,4 @@ put_point-requires c = omega (arith, c.loop-i.invariant.text.next, length_lines 
 
 pub loop-i-preserved : goal.loop-i-preserved
 loop-i-preserved c =
-    rw (lines_next (spots c.args.told) c.args.told.ring.now c.loop-i.i) (wrote_then c.loop-i.invariant (rw c.at.ensures.place at c.put_point.ensures))
+    rw (lines_next (spots c.args.told) c.args.told.ring.now c.loop-i.i) (wrote_then c.loop-i.invariant (rw c.at.ensures at c.put_point.ensures))
