@@ -7,8 +7,8 @@ ghost use Rattle.job.specs.Writing.{Wrote, HasRoom};
 // `at` bytes are written. Its methods promise what each writes, byte for byte: a `write!` to a writer of our own promises no bytes.
 #[derive(Drop)]
 pub struct Writer<'a> {
-    out: &'a mut [u8],
-    at: usize,
+    pub out: &'a mut [u8],
+    pub at: usize,
 }
 
 impl<'a> Writer<'a> {
