@@ -1,4 +1,4 @@
--- The meeting test decides document 01's words, for all segments with different ends.
+-- The meeting test decides document 01's words, for all segments with different ends. Those that meet on one line meet in two different places.
 use mathlib.Core.Path.{◌≡◌, refl, sym, ◌∙◌, ap}
 use mathlib.Core.Bool.{true, false, ◌&&◌, ◌||◌}
 use mathlib.Core.List.{[], ◌∷◌}
@@ -15,7 +15,8 @@ use Rattle.geometry.proofs.Turns.{turn_of_edge}
 use Rattle.geometry.proofs.Places.{way_of_edge, meets_sym, mixed, meets_not_above, meets_not_below, OnLine, mir, unmirror, rev, way_rev, turn_mir}
 use Rattle.geometry.specs.Plane.{Point, turn, eq_point, lt_point, min_point, collinear}
 use Rattle.geometry.proofs.Points.{eq_point_true, zero_yes, zero_is, point_eq, below_is, not_below, lt_point_flip, lt_point_total, three, turn_first, turn_second}
-use Rattle.geometry.specs.Segment.{CommonPlace, way, Ends, StandsAt, Meet, same_side, shared, meets}
+use Rattle.geometry.specs.Segment.{CommonPlace, way, Ends, StandsAt, Meet, same_side, shared, parallel, meets}
+use Rattle.geometry.specs.Contact.{SamePlace, Overlap}
 use Rattle.geometry.proofs.Lines.{gap_pos, gap_le, same_x, same_y}
 use Rattle.algebra.specs.Cases.{and_left, and_right, both, true_or_false, never, or_cases}
 use Rattle.geometry.proofs.Crossing.{crossing, a_b, a_b', a'_b, a'_b'}
@@ -50,6 +51,36 @@ end_mir (inr e) = inr (ap mir e)
 meet_mir : (a a' b b' : Point) → Meet (mir a) (mir a') (mir b) (mir b') → Meet a a' b b'
 unfolding unmirror
 meet_mir a a' b b' m = record { place = unmirror m.place; no_vertex = λ v p q h. m.no_vertex (mir v) (end_mir p) (end_mir q) (h.1, h.0) }
+
+-- so it is with two different places
+same_rev : {a a' b b' : Point} (m k : CommonPlace a a' b b') → SamePlace (rev m) (rev k) → SamePlace m k
+unfolding rev
+same_rev {a} {a'} m k h = (
+  ap (λ z. k.d *ℤ z) (sym (way_rev m.d m.s a.x a'.x)) ∙ h.0 ∙ ap (λ z. m.d *ℤ z) (way_rev k.d k.s a.x a'.x),
+  ap (λ z. k.d *ℤ z) (sym (way_rev m.d m.s a.y a'.y)) ∙ h.1 ∙ ap (λ z. m.d *ℤ z) (way_rev k.d k.s a.y a'.y),
+)
+
+same_sym : {a a' b b' : Point} (m k : CommonPlace a a' b b') → SamePlace (meets_sym m) (meets_sym k) → SamePlace m k
+unfolding meets_sym
+same_sym m k h = (
+  ap (λ z. k.d *ℤ z) m.at_x ∙ h.0 ∙ ap (λ z. m.d *ℤ z) (sym k.at_x),
+  ap (λ z. k.d *ℤ z) m.at_y ∙ h.1 ∙ ap (λ z. m.d *ℤ z) (sym k.at_y),
+)
+
+overlap_rev : {a a' b b' : Point} → Overlap a a' b b' → Overlap a' a b b'
+unfolding meet_rev
+overlap_rev o = record { first = meet_rev o.first; second = meet_rev o.second; differ = λ h. o.differ (same_rev o.first.place o.second.place h) }
+
+overlap_sym : {a a' b b' : Point} → Overlap a a' b b' → Overlap b b' a a'
+unfolding meet_sym
+overlap_sym o = record { first = meet_sym o.first; second = meet_sym o.second; differ = λ h. o.differ (same_sym o.first.place o.second.place h) }
+
+overlap_rev₂ : {a a' b b' : Point} → Overlap a a' b b' → Overlap a a' b' b
+overlap_rev₂ o = overlap_sym (overlap_rev (overlap_sym o))
+
+overlap_mir : (a a' b b' : Point) → Overlap (mir a) (mir a') (mir b) (mir b') → Overlap a a' b b'
+unfolding meet_mir unmirror
+overlap_mir a a' b b' o = record { first = meet_mir a a' b b' o.first; second = meet_mir a a' b b' o.second; differ = λ h. o.differ (h.1, h.0) }
 
 -- ---- not on one line
 side_cases : (p q : ℤ) → same_side p q ≡ true → ((pos 0 <ℤ p) × (pos 0 <ℤ q)) ⊎ ((p <ℤ pos 0) × (q <ℤ pos 0))
@@ -137,7 +168,7 @@ module _ (a a' b b' : Point) (nf : (collinear a a' b && collinear a a' b') ≡ f
 le_sum : (x y z w : ℤ) → w ≡ x +ℤ (y +ℤ z) → pos 0 ≤ℤ y → pos 0 ≤ℤ z → x ≤ℤ w
 le_sum x y z w e h k = omega (arith, ints)
 
--- u lies behind a, which is not before b, and is past no end: the two meet in the middle of a and u
+-- u lies behind a, which is not before b, and is past no end: the two meet everywhere between a and u
 module _ (a a' b b' u : Point) (la : a.x <ℤ a'.x) (lb : b.x <ℤ b'.x) (lu : a.x <ℤ u.x) (ba : b.x ≤ℤ a.x) (ua : u.x ≤ℤ a'.x) (ub : u.x ≤ℤ b'.x)
     (zu : turn a a' u ≡ pos 0) (za : turn b b' a ≡ pos 0) (zb : turn b b' u ≡ pos 0) where
   abbrev A : ℤ
@@ -152,78 +183,127 @@ module _ (a a' b b' u : Point) (la : a.x <ℤ a'.x) (lb : b.x <ℤ b'.x) (lu : a
   B> : pos 0 <ℤ B
   B> = gap_pos b.x b'.x lb
 
-  abbrev D : ℤ
-  D = A *ℤ B +ℤ A *ℤ B
+  AB> : pos 0 <ℤ (A *ℤ B)
+  AB> = mul_pos A> B>
 
-  D> : pos 0 <ℤ D
-  D> = let z = mul_pos A> B> in omega (arith, ints)
+  -- g parts of u and h of a
+  module _ (g h : ℤ) (g> : pos 0 <ℤ g) (h> : pos 0 <ℤ h) where
+    abbrev D : ℤ
+    D = (g +ℤ h) *ℤ (A *ℤ B)
 
-  abbrev S : ℤ
-  S = (u.x -ℤ a.x) *ℤ B
+    D> : pos 0 <ℤ D
+    D> = mul_pos (let z : pos 0 <ℤ (g +ℤ h) = omega (arith, ints) in z) AB>
 
-  S≤ : S ≤ℤ D
-  S≤ =
-      le_sum S ((a'.x -ℤ u.x) *ℤ B) (A *ℤ B) D
-      (ident (num ∷ num ∷ num ∷ num ∷ []) (λ a a' u B. (a' :- a) :* B :+ (a' :- a) :* B := (u :- a) :* B :+ ((a' :- u) :* B :+ (a' :- a) :* B)) tt a.x a'.x u.x B)
-      (mul_nonneg (gap_le u.x a'.x ua) (<ℤ-le B>)) (<ℤ-le (mul_pos A> B>))
+    abbrev S : ℤ
+    S = g *ℤ ((u.x -ℤ a.x) *ℤ B)
 
-  abbrev W : ℤ
-  W = (a.x -ℤ b.x) +ℤ (u.x -ℤ b.x)
+    S≤ : S ≤ℤ D
+    S≤ =
+        le_sum S (g *ℤ ((a'.x -ℤ u.x) *ℤ B)) (h *ℤ (A *ℤ B)) D
+        (ident (num ∷ num ∷ num ∷ num ∷ num ∷ num ∷ []) (λ a a' u B g h. (g :+ h) :* ((a' :- a) :* B) := g :* ((u :- a) :* B) :+ (g :* ((a' :- u) :* B) :+ h :* ((a' :- a) :* B))) tt a.x a'.x u.x B g h)
+        (mul_nonneg (<ℤ-le g>) (mul_nonneg (gap_le u.x a'.x ua) (<ℤ-le B>))) (mul_nonneg (<ℤ-le h>) (<ℤ-le AB>))
 
-  W≥ : pos 0 ≤ℤ W
-  W≥ = omega (arith, ints)
+    abbrev W : ℤ
+    W = h *ℤ (a.x -ℤ b.x) +ℤ g *ℤ (u.x -ℤ b.x)
 
-  W≤ : (W *ℤ A) ≤ℤ D
-  W≤ =
-      le_sum (W *ℤ A) ((b'.x -ℤ a.x) *ℤ A) ((b'.x -ℤ u.x) *ℤ A) D
-      (ident (num ∷ num ∷ num ∷ num ∷ num ∷ []) (λ a b b' u A. A :* (b' :- b) :+ A :* (b' :- b) := ((a :- b) :+ (u :- b)) :* A :+ ((b' :- a) :* A :+ (b' :- u) :* A)) tt a.x b.x b'.x u.x A)
-      (mul_nonneg (gap_le a.x b'.x (omega (arith, ints))) (<ℤ-le A>)) (mul_nonneg (gap_le u.x b'.x ub) (<ℤ-le A>))
+    W≥ : pos 0 ≤ℤ W
+    W≥ =
+        let p = mul_nonneg (<ℤ-le h>) (gap_le b.x a.x ba) in
+        let q = mul_nonneg (<ℤ-le g>) (gap_le b.x u.x (omega (arith, ints))) in
+        omega (arith, ints)
 
-  middle : CommonPlace a a' b b'
-  middle = record {
-    d = D;
-    s = S;
-    t = W *ℤ A;
-    d> = D>;
-    s≥ = mul_nonneg (gap_le a.x u.x (<ℤ-le lu)) (<ℤ-le B>);
-    s≤ = S≤;
-    t≥ = mul_nonneg W≥ (<ℤ-le A>);
-    t≤ = W≤;
-    at_x = by_x a.x a'.x b.x b'.x u.x;
-    at_y = by_y a a' b b' u zu za zb;
-  }
+    W≤ : (W *ℤ A) ≤ℤ D
+    W≤ =
+        le_sum (W *ℤ A) (h *ℤ ((b'.x -ℤ a.x) *ℤ A)) (g *ℤ ((b'.x -ℤ u.x) *ℤ A)) D
+        (ident (num ∷ num ∷ num ∷ num ∷ num ∷ num ∷ num ∷ []) (λ a b b' u A g h. (g :+ h) :* (A :* (b' :- b)) := (h :* (a :- b) :+ g :* (u :- b)) :* A :+ (h :* ((b' :- a) :* A) :+ g :* ((b' :- u) :* A))) tt a.x b.x b'.x u.x A g h)
+        (mul_nonneg (<ℤ-le h>) (mul_nonneg (gap_le a.x b'.x (omega (arith, ints))) (<ℤ-le A>))) (mul_nonneg (<ℤ-le g>) (mul_nonneg (gap_le u.x b'.x ub) (<ℤ-le A>)))
+
+    between : CommonPlace a a' b b'
+    between = record {
+      d = D;
+      s = S;
+      t = W *ℤ A;
+      d> = D>;
+      s≥ = mul_nonneg (<ℤ-le g>) (mul_nonneg (gap_le a.x u.x (<ℤ-le lu)) (<ℤ-le B>));
+      s≤ = S≤;
+      t≥ = mul_nonneg W≥ (<ℤ-le A>);
+      t≤ = W≤;
+      at_x = by_x a.x a'.x b.x b'.x u.x g h;
+      at_y = by_y a a' b b' u g h zu za zb;
+    }
+      where
+        by_x : (a a' b b' u g h : ℤ) → way ((g +ℤ h) *ℤ ((a' -ℤ a) *ℤ (b' -ℤ b))) (g *ℤ ((u -ℤ a) *ℤ (b' -ℤ b))) a a' ≡ way ((g +ℤ h) *ℤ ((a' -ℤ a) *ℤ (b' -ℤ b))) ((h *ℤ (a -ℤ b) +ℤ g *ℤ (u -ℤ b)) *ℤ (a' -ℤ a)) b b'
+        by_x = ident (num ∷ num ∷ num ∷ num ∷ num ∷ num ∷ num ∷ [])
+            (λ a a' b b' u g h. way_of_edge ((g :+ h) :* ((a' :- a) :* (b' :- b))) (g :* ((u :- a) :* (b' :- b))) a a' := way_of_edge ((g :+ h) :* ((a' :- a) :* (b' :- b))) ((h :* (a :- b) :+ g :* (u :- b)) :* (a' :- a)) b b') tt
+
+        by_y : (a a' b b' u : Point) (g h : ℤ) → turn a a' u ≡ pos 0 → turn b b' a ≡ pos 0 → turn b b' u ≡ pos 0
+            → way ((g +ℤ h) *ℤ ((a'.x -ℤ a.x) *ℤ (b'.x -ℤ b.x))) (g *ℤ ((u.x -ℤ a.x) *ℤ (b'.x -ℤ b.x))) a.y a'.y
+            ≡ way ((g +ℤ h) *ℤ ((a'.x -ℤ a.x) *ℤ (b'.x -ℤ b.x))) ((h *ℤ (a.x -ℤ b.x) +ℤ g *ℤ (u.x -ℤ b.x)) *ℤ (a'.x -ℤ a.x)) b.y b'.y
+        by_y = follows (pair ∷ pair ∷ pair ∷ pair ∷ pair ∷ num ∷ num ∷ [])
+            (λ a a' b b' u g h. (way_of_edge ((g :+ h) :* ((a'.ex :- a.ex) :* (b'.ex :- b.ex))) (g :* ((u.ex :- a.ex) :* (b'.ex :- b.ex))) a.ey a'.ey
+            := way_of_edge ((g :+ h) :* ((a'.ex :- a.ex) :* (b'.ex :- b.ex))) ((h :* (a.ex :- b.ex) :+ g :* (u.ex :- b.ex)) :* (a'.ex :- a.ex)) b.ey b'.ey) ⇐
+            (hyp (neg (g :* (b'.ex :- b.ex))) (turn_of_edge a a' u) (lit (pos 0)) ∷ hyp (h :* (a'.ex :- a.ex)) (turn_of_edge b b' a) (lit (pos 0)) ∷ hyp (g :* (a'.ex :- a.ex)) (turn_of_edge b b' u) (lit (pos 0)) ∷ [])) tt
+
+    -- and that place is no end of a
+    across : Meet a a' b b'
+    unfolding between
+    across = record { place = between; no_vertex = λ v p q k. apart v p k.0 }
+      where
+        parts : (v a a' B u g h : ℤ) → ((g +ℤ h) *ℤ ((a' -ℤ a) *ℤ B)) *ℤ v ≡ way ((g +ℤ h) *ℤ ((a' -ℤ a) *ℤ B)) (g *ℤ ((u -ℤ a) *ℤ B)) a a' → ((a' -ℤ a) *ℤ B) *ℤ (h *ℤ (v -ℤ a) +ℤ g *ℤ (v -ℤ u)) ≡ pos 0
+        parts = follows (num ∷ num ∷ num ∷ num ∷ num ∷ num ∷ num ∷ [])
+            (λ v a a' B u g h. (((a' :- a) :* B) :* (h :* (v :- a) :+ g :* (v :- u)) := lit (pos 0)) ⇐
+            (hyp (lit (pos 1)) (((g :+ h) :* ((a' :- a) :* B)) :* v) (way_of_edge ((g :+ h) :* ((a' :- a) :* B)) (g :* ((u :- a) :* B)) a a') ∷ [])) tt
+
+        at_start : (v a u g h : ℤ) → v ≡ a → h *ℤ (v -ℤ a) +ℤ g *ℤ (v -ℤ u) ≡ pos 0 → g *ℤ (u -ℤ a) ≡ pos 0
+        at_start = follows (num ∷ num ∷ num ∷ num ∷ num ∷ [])
+            (λ v a u g h. (g :* (u :- a) := lit (pos 0)) ⇐ (hyp (g :+ h) v a ∷ hyp (lit (negsuc 0)) (h :* (v :- a) :+ g :* (v :- u)) (lit (pos 0)) ∷ [])) tt
+
+        at_stop : (v a a' u g h : ℤ) → v ≡ a' → h *ℤ (v -ℤ a) +ℤ g *ℤ (v -ℤ u) ≡ pos 0 → h *ℤ (a' -ℤ a) +ℤ g *ℤ (a' -ℤ u) ≡ pos 0
+        at_stop = follows (num ∷ num ∷ num ∷ num ∷ num ∷ num ∷ [])
+            (λ v a a' u g h. (h :* (a' :- a) :+ g :* (a' :- u) := lit (pos 0)) ⇐ (hyp (neg (g :+ h)) v a' ∷ hyp (lit (pos 1)) (h :* (v :- a) :+ g :* (v :- u)) (lit (pos 0)) ∷ [])) tt
+
+        off : (v : Point) → Ends v a a' → h *ℤ (v.x -ℤ a.x) +ℤ g *ℤ (v.x -ℤ u.x) ≡ pos 0 → ⊥
+        off v (inl e) z =
+            let w = at_start v.x a.x u.x g h (ap (λ (p : Point). p.x) e) z in
+            let k = mul_pos g> (gap_pos a.x u.x lu) in
+            omega (arith, ints)
+        off v (inr e) z =
+            let w = at_stop v.x a.x a'.x u.x g h (ap (λ (p : Point). p.x) e) z in
+            let k = mul_pos h> A> in
+            let l = mul_nonneg (<ℤ-le g>) (gap_le u.x a'.x ua) in
+            omega (arith, ints)
+
+        apart : (v : Point) → Ends v a a' → D *ℤ v.x ≡ way D S a.x a'.x → ⊥
+        apart v p k =
+            both (no_zero (A *ℤ B) _ (parts v.x a.x a'.x B u.x g h k))
+            (λ z. (let w = AB> in omega (arith, ints)))
+            (off v p)
+
+  -- halfway and a third of the way are two places
+  across_twice : Overlap a a' b b'
+  unfolding between across
+  across_twice = record { first = across (pos 1) (pos 1) one> one>; second = across (pos 1) (pos 2) one> two>; differ = λ k. two_places k.0 }
     where
-      by_x : (a a' b b' u : ℤ) → way ((a' -ℤ a) *ℤ (b' -ℤ b) +ℤ (a' -ℤ a) *ℤ (b' -ℤ b)) ((u -ℤ a) *ℤ (b' -ℤ b)) a a' ≡ way ((a' -ℤ a) *ℤ (b' -ℤ b) +ℤ (a' -ℤ a) *ℤ (b' -ℤ b)) (((a -ℤ b) +ℤ (u -ℤ b)) *ℤ (a' -ℤ a)) b b'
-      by_x = ident (num ∷ num ∷ num ∷ num ∷ num ∷ [])
-          (λ a a' b b' u. way_of_edge ((a' :- a) :* (b' :- b) :+ (a' :- a) :* (b' :- b)) ((u :- a) :* (b' :- b)) a a' := way_of_edge ((a' :- a) :* (b' :- b) :+ (a' :- a) :* (b' :- b)) (((a :- b) :+ (u :- b)) :* (a' :- a)) b b') tt
+      one> : pos 0 <ℤ pos 1
+      one> = omega (arith, ints)
 
-      by_y : (a a' b b' u : Point) → turn a a' u ≡ pos 0 → turn b b' a ≡ pos 0 → turn b b' u ≡ pos 0
-          → way ((a'.x -ℤ a.x) *ℤ (b'.x -ℤ b.x) +ℤ (a'.x -ℤ a.x) *ℤ (b'.x -ℤ b.x)) ((u.x -ℤ a.x) *ℤ (b'.x -ℤ b.x)) a.y a'.y
-          ≡ way ((a'.x -ℤ a.x) *ℤ (b'.x -ℤ b.x) +ℤ (a'.x -ℤ a.x) *ℤ (b'.x -ℤ b.x)) (((a.x -ℤ b.x) +ℤ (u.x -ℤ b.x)) *ℤ (a'.x -ℤ a.x)) b.y b'.y
-      by_y = follows (pair ∷ pair ∷ pair ∷ pair ∷ pair ∷ [])
-          (λ a a' b b' u. (way_of_edge ((a'.ex :- a.ex) :* (b'.ex :- b.ex) :+ (a'.ex :- a.ex) :* (b'.ex :- b.ex)) ((u.ex :- a.ex) :* (b'.ex :- b.ex)) a.ey a'.ey
-          := way_of_edge ((a'.ex :- a.ex) :* (b'.ex :- b.ex) :+ (a'.ex :- a.ex) :* (b'.ex :- b.ex)) (((a.ex :- b.ex) :+ (u.ex :- b.ex)) :* (a'.ex :- a.ex)) b.ey b'.ey) ⇐
-          (hyp (neg (b'.ex :- b.ex)) (turn_of_edge a a' u) (lit (pos 0)) ∷ hyp (a'.ex :- a.ex) (turn_of_edge b b' a) (lit (pos 0)) ∷ hyp (a'.ex :- a.ex) (turn_of_edge b b' u) (lit (pos 0)) ∷ [])) tt
+      two> : pos 0 <ℤ pos 2
+      two> = omega (arith, ints)
 
-  -- and that place is no end of a
-  across : Meet a a' b b'
-  unfolding middle
-  across = record { place = middle; no_vertex = λ v p q h. apart v p h.0 }
-    where
-      twice : (v a a' B u : ℤ) → ((a' -ℤ a) *ℤ B +ℤ (a' -ℤ a) *ℤ B) *ℤ v ≡ way ((a' -ℤ a) *ℤ B +ℤ (a' -ℤ a) *ℤ B) ((u -ℤ a) *ℤ B) a a' → ((a' -ℤ a) *ℤ B) *ℤ ((v -ℤ a) +ℤ (v -ℤ u)) ≡ pos 0
-      twice = follows (num ∷ num ∷ num ∷ num ∷ num ∷ [])
-          (λ v a a' B u. (((a' :- a) :* B) :* ((v :- a) :+ (v :- u)) := lit (pos 0)) ⇐
-          (hyp (lit (pos 1)) (((a' :- a) :* B :+ (a' :- a) :* B) :* v) (way_of_edge ((a' :- a) :* B :+ (a' :- a) :* B) ((u :- a) :* B) a a') ∷ [])) tt
+      gap : (a a' B u : ℤ)
+          → ((pos 1 +ℤ pos 2) *ℤ ((a' -ℤ a) *ℤ B)) *ℤ way ((pos 1 +ℤ pos 1) *ℤ ((a' -ℤ a) *ℤ B)) (pos 1 *ℤ ((u -ℤ a) *ℤ B)) a a'
+          ≡ ((pos 1 +ℤ pos 1) *ℤ ((a' -ℤ a) *ℤ B)) *ℤ way ((pos 1 +ℤ pos 2) *ℤ ((a' -ℤ a) *ℤ B)) (pos 1 *ℤ ((u -ℤ a) *ℤ B)) a a' → ((a' -ℤ a) *ℤ B) *ℤ (((a' -ℤ a) *ℤ B) *ℤ (u -ℤ a)) ≡ pos 0
+      gap = follows (num ∷ num ∷ num ∷ num ∷ [])
+          (λ a a' B u. (((a' :- a) :* B) :* (((a' :- a) :* B) :* (u :- a)) := lit (pos 0)) ⇐
+          (hyp (lit (pos 1)) (((lit (pos 1) :+ lit (pos 2)) :* ((a' :- a) :* B)) :* way_of_edge ((lit (pos 1) :+ lit (pos 1)) :* ((a' :- a) :* B)) (lit (pos 1) :* ((u :- a) :* B)) a a')
+          (((lit (pos 1) :+ lit (pos 1)) :* ((a' :- a) :* B)) :* way_of_edge ((lit (pos 1) :+ lit (pos 2)) :* ((a' :- a) :* B)) (lit (pos 1) :* ((u :- a) :* B)) a a') ∷ [])) tt
 
-      off : (v : Point) → Ends v a a' → (v.x -ℤ a.x) +ℤ (v.x -ℤ u.x) ≡ pos 0 → ⊥
-      off v (inl e) z = let w = ap (λ (p : Point). p.x) e in omega (arith, ints)
-      off v (inr e) z = let w = ap (λ (p : Point). p.x) e in omega (arith, ints)
-
-      apart : (v : Point) → Ends v a a' → D *ℤ v.x ≡ way D S a.x a'.x → ⊥
-      apart v p h =
-          both (no_zero (A *ℤ B) _ (twice v.x a.x a'.x B u.x h))
-          (λ z. (let w = mul_pos A> B> in omega (arith, ints)))
-          (off v p)
+      two_places : ((pos 1 +ℤ pos 2) *ℤ (A *ℤ B)) *ℤ way ((pos 1 +ℤ pos 1) *ℤ (A *ℤ B)) (pos 1 *ℤ ((u.x -ℤ a.x) *ℤ B)) a.x a'.x
+          ≡ ((pos 1 +ℤ pos 1) *ℤ (A *ℤ B)) *ℤ way ((pos 1 +ℤ pos 2) *ℤ (A *ℤ B)) (pos 1 *ℤ ((u.x -ℤ a.x) *ℤ B)) a.x a'.x → ⊥
+      two_places k =
+          let z = gap a.x a'.x B u.x k in
+          let w = mul_pos AB> (mul_pos AB> (gap_pos a.x u.x lu)) in
+          omega (arith, ints)
 
 -- b ends before a begins: they meet nowhere but in a shared end
 module _ (a a' b b' : Point) (la : a.x <ℤ a'.x) (lb : b.x <ℤ b'.x) (le : b'.x ≤ℤ a.x) (z : turn a a' b' ≡ pos 0) where
@@ -278,18 +358,18 @@ module _ (a a' b b' : Point) (sa : lt_point a a' ≡ true) (sb : lt_point b b' �
 
   module _ (ba : LeP b a) where
     -- u is the lesser of the greater ends
-    overlap : (u : Point) → LeP u a' → LeP u b' → turn a a' u ≡ pos 0 → turn b b' u ≡ pos 0 → lt_point a u ≡ true → Meet a a' b b'
+    overlap : (u : Point) → LeP u a' → LeP u b' → turn a a' u ≡ pos 0 → turn b b' u ≡ pos 0 → lt_point a u ≡ true → Overlap a a' b b'
     overlap u ua ub zu zb lu =
         both lean
-        (λ l. across a a' b b' u l.0 l.1
+        (λ l. across_twice a a' b b' u l.0 l.1
         (both (below_is a u lu) (λ g. g) (λ g. absurd (let e = same_y a a' u l.0 zu g.0 in let f = g.1 in omega (arith, ints))))
         (x_le b a ba) (x_le u a' ua) (x_le u b' ub) zu on.r0 zb)
         (λ l. let eu = same_x a a' u l.2 l.0 zu in
         let eb = same_x a a' b l.2 l.0 on.p0 in
         let eb' = same_x a a' b' l.2 l.0 on.q0 in
         let ea = l.2 in
-        meet_mir a a' b b'
-        (across (mir a) (mir a') (mir b) (mir b') (mir u) l.0 l.1
+        overlap_mir a a' b b'
+        (across_twice (mir a) (mir a') (mir b) (mir b') (mir u) l.0 l.1
         (both (below_is a u lu) (λ g. absurd (omega (arith, ints))) (λ g. g.1))
         (y_le b a ba eb) (y_le u a' ua (omega (arith, ints))) (y_le u b' ub (omega (arith, ints))) (turn_mir a a' u zu) (turn_mir b b' a on.r0) (turn_mir b b' u zb)))
 
@@ -299,7 +379,7 @@ module _ (a a' b b' : Point) (sa : lt_point a a' ≡ true) (sb : lt_point b b' �
         (λ l. touch a a' b b' l.0 l.1 (x_le b' a le) on.q0 m)
         (λ l. touch (mir a) (mir a') (mir b) (mir b') l.0 l.1 (y_le b' a le (same_x a a' b' l.2 l.0 on.q0)) (turn_mir a a' b' on.q0) (meet_mir (mir a) (mir a') (mir b) (mir b') m))
 
-    lesser : meets a a' b b' ≡ lt_point a (min_point a' b') → (meets a a' b b' ≡ true) ↔ Meet a a' b b'
+    lesser : meets a a' b b' ≡ lt_point a (min_point a' b') → (meets a a' b b' ≡ true → Overlap a a' b b') × (Meet a a' b b' → meets a a' b b' ≡ true)
     lesser e =
         both (true_or_false (lt_point a' b'))
         (λ t. let f : meets a a' b b' ≡ lt_point a a' = rw t at e in
@@ -309,41 +389,67 @@ module _ (a a' b b' : Point) (sa : lt_point a a' ≡ true) (sb : lt_point b b' �
           λ m. both (true_or_false (lt_point a b')) (λ g. f ∙ g) (λ g. absurd (beyond (not_below a b' g) m)),
         ))
 
+-- What the test tells: where they meet, and on one line that they do so in two places.
+record Told (a a' b b' : Point) : Type 0 where
+  decides : (meets a a' b b' ≡ true) ↔ Meet a a' b b'
+  twice : OnLine a a' b b' → meets a a' b b' ≡ true → Overlap a a' b b'
+
 module _ (a a' b b' : Point) (na : a ≢ a') (nb : b ≢ b') where
-  on_line : (collinear a a' b && collinear a a' b') ≡ true → OnLine a a' b b'
+  on_line : parallel a a' b b' ≡ true → OnLine a a' b b'
   on_line f =
       let p = zero_yes (turn a a' b) (and_left (collinear a a' b) _ f) in
       let q = zero_yes (turn a a' b') (and_right (collinear a a' b) _ f) in
       record { p0 = p; q0 = q; r0 = three a a' b b' a na p q (turn_first a a'); s0 = three a a' b b' a' na p q (turn_second a a') }
 
   -- each lesser end first, and b's not after a's
-  in_order : lt_point a a' ≡ true → lt_point b b' ≡ true → lt_point a b ≡ false → (meets a a' b b' ≡ true) ↔ Meet a a' b b'
+  in_order : lt_point a a' ≡ true → lt_point b b' ≡ true → lt_point a b ≡ false → Told a a' b b'
   in_order sa sb ba =
-      both (true_or_false (collinear a a' b && collinear a a' b'))
-      (λ f. lesser a a' b b' sa sb (on_line f) (not_below a b ba) (rw (f, sa, sb, ba)))
-      (λ f. (crossed_meet a a' b b' f, meet_crossed a a' b b' f))
+      both (true_or_false (parallel a a' b b'))
+      (λ f. let l = lesser a a' b b' sa sb (on_line f) (not_below a b ba) (rw (f, sa, sb, ba)) in
+      record { decides = (λ h. (l.0 h).first, l.1); twice = λ o h. l.0 h })
+      (λ f. record { decides = (crossed_meet a a' b b' f, meet_crossed a a' b b' f); twice = λ o h. absurd (both_on a a' b b' f o.p0 o.q0) })
 
-any_order : (a a' b b' : Point) → a ≢ a' → b ≢ b' → lt_point a a' ≡ true → lt_point b b' ≡ true → (meets a a' b b' ≡ true) ↔ Meet a a' b b'
+-- the same line, by the segments in the other order, or with one of them turned
+line_sym : {a a' b b' : Point} → OnLine a a' b b' → OnLine b b' a a'
+line_sym o = record { p0 = o.r0; q0 = o.s0; r0 = o.p0; s0 = o.q0 }
+
+line_turned : (a a' b b' : Point) → OnLine a a' b b' → OnLine a' a b b'
+line_turned a a' b b' o = record { p0 = turned a a' b o.p0; q0 = turned a a' b' o.q0; r0 = o.s0; s0 = o.r0 }
+  where
+    turned : (a a' b : Point) → turn a a' b ≡ pos 0 → turn a' a b ≡ pos 0
+    turned = follows (pair ∷ pair ∷ pair ∷ []) (λ a a' b. (turn_of_edge a' a b := lit (pos 0)) ⇐ (hyp (lit (negsuc 0)) (turn_of_edge a a' b) (lit (pos 0)) ∷ [])) tt
+
+told_sym : (a a' b b' : Point) → a ≢ a' → b ≢ b' → Told b b' a a' → Told a a' b b'
+told_sym a a' b b' na nb i =
+    let e = meets_swap a a' b b' na nb in
+    record { decides = (λ h. meet_sym (i.decides.0 (e ∙ h)), λ m. sym e ∙ i.decides.1 (meet_sym m)); twice = λ o h. overlap_sym (i.twice (line_sym o) (e ∙ h)) }
+
+told_rev : (a a' b b' : Point) → Told a' a b b' → Told a a' b b'
+told_rev a a' b b' i =
+    let e = meets_rev a a' b b' in
+    record { decides = (λ h. meet_rev (i.decides.0 (e ∙ h)), λ m. sym e ∙ i.decides.1 (meet_rev m)); twice = λ o h. overlap_rev (i.twice (line_turned a a' b b' o) (e ∙ h)) }
+
+told_rev₂ : (a a' b b' : Point) → Told a a' b' b → Told a a' b b'
+told_rev₂ a a' b b' i =
+    let e = meets_rev₂ a a' b b' in
+    record { decides = (λ h. meet_rev₂ (i.decides.0 (e ∙ h)), λ m. sym e ∙ i.decides.1 (meet_rev₂ m)); twice = λ o h. overlap_rev₂ (i.twice (line_sym (line_turned b b' a a' (line_sym o))) (e ∙ h)) }
+
+any_order : (a a' b b' : Point) → a ≢ a' → b ≢ b' → lt_point a a' ≡ true → lt_point b b' ≡ true → Told a a' b b'
 any_order a a' b b' na nb sa sb =
-    both (true_or_false (lt_point a b))
-    (λ t. let e = meets_swap a a' b b' na nb in
-    let i = in_order b b' a a' nb na sb sa (lt_point_flip a b t) in
-    (λ h. meet_sym (i.0 (e ∙ h)), λ m. sym e ∙ i.1 (meet_sym m)))
-    (in_order a a' b b' na nb sa sb)
+    both (true_or_false (lt_point a b)) (λ t. told_sym a a' b b' na nb (in_order b b' a a' nb na sb sa (lt_point_flip a b t))) (in_order a a' b b' na nb sa sb)
 
-second_way : (a a' b b' : Point) → a ≢ a' → b ≢ b' → lt_point a a' ≡ true → (meets a a' b b' ≡ true) ↔ Meet a a' b b'
+second_way : (a a' b b' : Point) → a ≢ a' → b ≢ b' → lt_point a a' ≡ true → Told a a' b b'
 second_way a a' b b' na nb sa =
-    both (lt_point_total b b' nb)
-    (any_order a a' b b' na nb sa)
-    (λ t. let e = meets_rev₂ a a' b b' in
-    let i = any_order a a' b' b na (λ z. nb (sym z)) sa t in
-    (λ h. meet_rev₂ (i.0 (e ∙ h)), λ m. sym e ∙ i.1 (meet_rev₂ m)))
+    both (lt_point_total b b' nb) (any_order a a' b b' na nb sa) (λ t. told_rev₂ a a' b b' (any_order a a' b' b na (λ z. nb (sym z)) sa t))
+
+told : (a a' b b' : Point) → a ≢ a' → b ≢ b' → Told a a' b b'
+told a a' b b' na nb =
+    both (lt_point_total a a' na) (second_way a a' b b' na nb) (λ t. told_rev a a' b b' (second_way a' a b b' (λ z. na (sym z)) nb t))
 
 -- THE MEETING: the test decides document 01's words
 pub meets_decides : (a a' b b' : Point) → a ≢ a' → b ≢ b' → (meets a a' b b' ≡ true) ↔ Meet a a' b b'
-meets_decides a a' b b' na nb =
-    both (lt_point_total a a' na)
-    (second_way a a' b b' na nb)
-    (λ t. let e = meets_rev a a' b b' in
-    let i = second_way a' a b b' (λ z. na (sym z)) nb t in
-    (λ h. meet_rev (i.0 (e ∙ h)), λ m. sym e ∙ i.1 (meet_rev m)))
+meets_decides a a' b b' na nb = (told a a' b b' na nb).decides
+
+-- and segments that meet on one line do so in two different places
+pub meets_twice : (a a' b b' : Point) → a ≢ a' → b ≢ b' → parallel a a' b b' ≡ true → meets a a' b b' ≡ true → Overlap a a' b b'
+meets_twice a a' b b' na nb f = (told a a' b b' na nb).twice (on_line a a' b b' na nb f)

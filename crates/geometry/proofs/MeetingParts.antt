@@ -1,4 +1,4 @@
--- The meeting test by its parts. Three turns give the fourth; two on one side are enough to tell that nothing meets.
+-- The kind of contact by its parts. Three turns give the fourth; two on one side are enough to tell that nothing meets.
 use mathlib.Core.Path.{◌≡◌, refl, sym, ◌∙◌, ap, ap₂, subst}
 use mathlib.Core.Bool.{Bool, true, false, not, ◌&&◌, cond}
 use mathlib.Core.List.{[], ◌∷◌}
@@ -12,7 +12,11 @@ use Rattle.algebra.specs.Identities.{ident, pair, ◌:=◌}
 use Rattle.algebra.specs.Size.{abs}
 use Rattle.algebra.specs.Cases.{both, true_or_false, never}
 use Rattle.geometry.specs.Plane.{Point, turn, is_zero, collinear}
+use Rattle.std.specs.Bool.{then_some}
 use Rattle.geometry.specs.Segment.{same_side, shared, parallel, overlap, meets}
+use Rattle.geometry.specs.Contact.{kind}
+use Rattle.geometry.specs.Answers.{without_ends}
+use Rattle.geometry.specs.declared.line_segment.ContactKind.TheVariants.{Crossing, Overlap}
 use Rattle.geometry.specs.Lent.{InRange}
 use Rattle.geometry.proofs.Turns.{turn_of_edge}
 use Rattle.geometry.proofs.Points.{zero_yes}
@@ -22,12 +26,15 @@ use Rattle.geometry.proofs.Reading.{cross_bound, gap_x, gap_y, zero_bits}
 pub on_line : (a b c d : Point) {p q : ℤ} → SFits w64 p → SFits w64 q → p ≡ turn a b c → q ≡ turn a b d → (eqb (of_z w64 p) 0 && eqb (of_z w64 q) 0) ≡ parallel a b c d
 on_line a b c d {p} {q} f g ep eq = ap₂ ◌&&◌ (zero_bits p f ∙ ap is_zero ep) (zero_bits q g ∙ ap is_zero eq)
 
-pub meets_on_line : (a b c d : Point) {o : Bool} → o ≡ overlap a b c d → parallel a b c d ≡ true → o ≡ meets a b c d
-meets_on_line a b c d o e = rw e o
+pub kind_on_line : (a b c d : Point) {o : Bool} → o ≡ overlap a b c d → parallel a b c d ≡ true → then_some o Overlap ≡ without_ends (kind a b c d)
+unfolding kind
+kind_on_line a b c d {o} eo e = both (true_or_false o) (λ t. rw (t, e, sym eo ∙ t)) (λ t. rw (t, e, sym eo ∙ t))
 
-pub meets_off_line : (a b c d : Point) → parallel a b c d ≡ false
-    → (not (shared a b c d) && (not (same_side (turn a b c) (turn a b d)) && not (same_side (turn c d a) (turn c d b)))) ≡ meets a b c d
-meets_off_line a b c d e = rw e
+pub kind_off_line : (a b c d : Point) → parallel a b c d ≡ false
+    → then_some (not (shared a b c d) && (not (same_side (turn a b c) (turn a b d)) && not (same_side (turn c d a) (turn c d b)))) Crossing ≡ without_ends (kind a b c d)
+unfolding kind
+kind_off_line a b c d e =
+    both (true_or_false (not (shared a b c d) && (not (same_side (turn a b c) (turn a b d)) && not (same_side (turn c d a) (turn c d b))))) (λ t. rw (e, t)) (λ t. rw (e, t))
 
 -- ---- the fourth turn
 four_turns : (a b c d : Point) → turn c d a +ℤ (turn a b c -ℤ turn a b d) ≡ turn c d b

@@ -1,4 +1,4 @@
--- The meeting test depends on neither segment's direction, nor on their order.
+-- The meeting test depends on neither segment's direction, nor on their order; nor do its parts.
 use mathlib.Core.Path.{◌≡◌, refl, sym, ◌∙◌, ap}
 use mathlib.Core.Bool.{Bool, true, false, not, ◌&&◌, ◌||◌, cond, or_comm, and_comm}
 use mathlib.Core.Logic.{◌≢◌}
@@ -10,7 +10,7 @@ use borrow.Author.Tests.{lt-ltb, le-ltb, ne_eqb}
 use borrow.Author.Differences.{ints}
 use Rattle.geometry.proofs.Turns.{turn_swap}
 use Rattle.geometry.specs.Plane.{Point, turn, is_zero, eq_int, eq_point, lt_point, min_point, max_point, collinear}
-use Rattle.geometry.specs.Segment.{same_side, shared, meets}
+use Rattle.geometry.specs.Segment.{same_side, shared, parallel, meets}
 use Rattle.geometry.proofs.Points.{eq_int_cases, zero_yes, zero_is, point_eq, not_below, lt_point_not, three, turn_first, turn_second}
 use Rattle.algebra.specs.Cases.{and_left, and_right, both, true_or_false, same_test}
 
@@ -78,13 +78,22 @@ pick f o s p q = cond f o (not s && (not p && not q))
 parts : {f f' o o' s s' p p' q q' : Bool} → f ≡ f' → o ≡ o' → s ≡ s' → p ≡ p' → q ≡ q' → pick f o s p q ≡ pick f' o' s' p' q'
 parts a b c d e = λ i. pick (a i) (b i) (c i) (d i) (e i)
 
-module _ (a a' b b' : Point) where
-  line_neg : (c : Point) → collinear a' a c ≡ collinear a a' c
-  line_neg c = ap is_zero (turn_swap a' a c) ∙ zero_neg (turn a a' c)
+pub line_rev : (a a' c : Point) → collinear a' a c ≡ collinear a a' c
+line_rev a a' c = ap is_zero (turn_swap a' a c) ∙ zero_neg (turn a a' c)
 
+pub line_swap : (a a' b b' : Point) → a ≢ a' → b ≢ b' → parallel b b' a a' ≡ parallel a a' b b'
+line_swap a a' b b' na nb = same_test (parallel b b' a a') (parallel a a' b b') (other b b' a a' nb) (other a a' b b' na)
+  where
+    other : (a a' b b' : Point) → a ≢ a' → parallel a a' b b' ≡ true → parallel b b' a a' ≡ true
+    other a a' b b' na f =
+        let p = zero_yes (turn a a' b) (and_left (collinear a a' b) (collinear a a' b') f) in
+        let q = zero_yes (turn a a' b') (and_right (collinear a a' b) (collinear a a' b') f) in
+        rw (zero_is (turn b b' a) (three a a' b b' a na p q (turn_first a a')), zero_is (turn b b' a') (three a a' b b' a' na p q (turn_second a a')))
+
+module _ (a a' b b' : Point) where
   pub meets_rev : meets a' a b b' ≡ meets a a' b b'
   meets_rev = parts
-      (λ i. line_neg b i && line_neg b' i)
+      (λ i. line_rev a a' b i && line_rev a a' b' i)
       (λ i. lt_point (max_point (min_point_comm a' a i) (min_point b b')) (min_point (max_point_comm a' a i) (max_point b b')))
       (or_comm (eq_point a' b || eq_point a' b') (eq_point a b || eq_point a b'))
       ((λ i. same_side (turn_swap a' a b i) (turn_swap a' a b' i)) ∙ side_neg (turn a a' b) (turn a a' b'))
@@ -100,7 +109,7 @@ module _ (a a' b b' : Point) where
 
   pub meets_swap : a ≢ a' → b ≢ b' → meets b b' a a' ≡ meets a a' b b'
   meets_swap na nb = parts
-      (same_test (collinear b b' a && collinear b b' a') (collinear a a' b && collinear a a' b') (other b b' a a' nb) (other a a' b b' na))
+      (line_swap a a' b b' na nb)
       (λ i. lt_point (max_comm i) (min_comm i))
       (or_swap (eq_point b a) (eq_point b a') (eq_point b' a) (eq_point b' a') ∙ (λ i. (eq_point_comm b a i || eq_point_comm b' a i) || (eq_point_comm b a' i || eq_point_comm b' a' i)))
       (λ i. same_side (turn b b' a) (turn b b' a')) (λ i. same_side (turn a a' b) (turn a a' b'))
@@ -112,9 +121,3 @@ module _ (a a' b b' : Point) where
 
       min_comm : min_point (max_point b b') (max_point a a') ≡ min_point (max_point a a') (max_point b b')
       min_comm = min_point_comm (max_point b b') (max_point a a')
-
-      other : (a a' b b' : Point) → a ≢ a' → (collinear a a' b && collinear a a' b') ≡ true → (collinear b b' a && collinear b b' a') ≡ true
-      other a a' b b' na f =
-          let p = zero_yes (turn a a' b) (and_left (collinear a a' b) (collinear a a' b') f) in
-          let q = zero_yes (turn a a' b') (and_right (collinear a a' b) (collinear a a' b') f) in
-          rw (zero_is (turn b b' a) (three a a' b b' a na p q (turn_first a a')), zero_is (turn b b' a') (three a a' b b' a' na p q (turn_second a a')))

@@ -1,13 +1,18 @@
 -- What the public entries answer, with the refusal numbers, and the answer that each has to give.
-use Rattle.std.specs.Prelude.{Bool, not, ◌&&◌, cond, ℕ, zero, suc, ℤ, pos, negsuc, Result, Ok, Err}
+use Rattle.std.specs.Prelude.{Bool, not, ◌&&◌, cond, ℕ, zero, suc, ℤ, pos, negsuc, Option, Some, None, Result, Ok, Err}
 use Rattle.refusal.specs.declared.Refusal.{Refusal}
 use Rattle.refusal.specs.Number.{number_of}
 use Rattle.geometry.specs.declared.orientation.Orientation.{Orientation}
 use Rattle.geometry.specs.declared.orientation.Orientation.TheVariants.{CounterClockWise, ClockWise, CoLinear}
 use Rattle.geometry.specs.declared.line_segment.EndPoint.{EndPoint}
 use Rattle.geometry.specs.declared.line_segment.EndPoint.TheVariants.{Exclusive, Inclusive}
+use Rattle.geometry.specs.declared.line_segment.ILineSegment.{ILineSegment}
+use Rattle.geometry.specs.declared.line_segment.ILineSegment.TheVariants.{Crossing as CrossingSegments, Overlap as OverlapSegments}
+use Rattle.geometry.specs.declared.line_segment.ContactKind.{ContactKind}
+use Rattle.geometry.specs.declared.line_segment.ContactKind.TheVariants.{Crossing, Overlap}
 use Rattle.geometry.specs.Plane.{Point, turn, eq_point, near_point}
 use Rattle.geometry.specs.Segment.{End, exclusive, inclusive, contains, meets}
+use Rattle.geometry.specs.Contact.{Kind, none, crossing, overlap, kind}
 use Rattle.geometry.specs.Lent.{spot}
 
 -- A call is refused with a number, or answered with a value.
@@ -38,6 +43,22 @@ abbrev pub mark_of : EndPoint → End
 mark_of (Exclusive p) = exclusive
 mark_of (Inclusive p) = inclusive
 
+-- how two segments meet, with the ends of an overlap
+abbrev pub kind_of : Option ILineSegment → Kind
+kind_of None = none
+kind_of (Some CrossingSegments) = crossing
+kind_of (Some (OverlapSegments s)) = overlap (end_of s.min) (mark_of s.min) (end_of s.max) (mark_of s.max)
+
+-- the same without the ends
+abbrev pub without_ends : Kind → Option ContactKind
+without_ends none = None
+without_ends crossing = Some Crossing
+without_ends (overlap v m w k) = Some Overlap
+
+abbrev pub contact_of : Result (Option ILineSegment) Refusal → Answer Kind
+contact_of (Ok k) = answered (kind_of k)
+contact_of (Err r) = refused (number_of r)
+
 -- ---- the answers
 -- 1, 0 or -1
 abbrev pub sign : ℤ → ℤ
@@ -62,3 +83,6 @@ containment a ea b eb p = checked (proper a b && near_point p) (contains a ea b 
 
 abbrev pub meeting : Point → Point → Point → Point → Answer Bool
 meeting a a' b b' = checked (proper a a' && proper b b') (meets a a' b b')
+
+abbrev pub contact : Point → Point → Point → Point → Answer Kind
+contact a a' b b' = checked (proper a a' && proper b b') (kind a a' b b')

@@ -1,27 +1,20 @@
--- `meets` meets its contract: past the limits, the check is whether two ends are equal.
-use mathlib.Core.Path.{sym, ◌∙◌, ap}
-use mathlib.Core.Bool.{not}
+-- `meets` meets its contract: a contact is refused, or its kind is none or not.
+use mathlib.Core.Path.{◌≡◌, ◌∙◌, ap}
+use borrow.Author.Rules.{rules}
+use Rattle.refusal.specs.Number.{number_of}
 use Rattle.geometry.specs.Lent.{spot}
-use Rattle.geometry.specs.Answers.{answered, meeting}
-use Rattle.geometry.proofs.Derived.{same_is}
-use Rattle.geometry.proofs.Choosing.{passed, stopped, both_proper}
+use Rattle.geometry.specs.Answers.{refused, answered, told}
+use Rattle.geometry.proofs.Contacts.{some_of}
+use Rattle.geometry.proofs.Answering.{met, meeting_is}
 use Rattle.geometry.proofs.line_segment.meets.Goals as goal
 
-pub returns-then-eq : goal.returns-then-eq
-returns-then-eq c =
-    let a1 = c.in_ok-a1.a1 in
-    let a2 = c.in_ok-a2.a2 in
-    let b1 = c.in_ok-b1.b1 in
-    let b2 = c.in_ok-b2.b2 in
-    let check_is = both_proper a1.near a2.near b1.near b2.near (c.eq.ensures ∙ same_is a1.point a2.point) (c.eq-2.ensures ∙ same_is b1.point b2.point) in
-    stopped _ _ (sym check_is ∙ ap not c.if-eq.true) ∙ (λ t. meeting (spot (c.in_ok-a1.ensures t)) (spot (c.in_ok-a2.ensures t)) (spot (c.in_ok-b1.ensures t)) (spot (c.in_ok-b2.ensures t)))
+pub returns-in_err-contact : goal.returns-in_err-contact
+returns-in_err-contact c =
+    let s = c.args in
+    let e : told c.from_residual.result ≡ refused (number_of c.in_err-contact.field-0.0) = search rules in
+    e ∙ ap met c.in_err-contact.ensures ∙ meeting_is (spot s.a1) (spot s.a2) (spot s.b1) (spot s.b2)
 
 pub returns : goal.returns
 returns c =
-    let a1 = c.in_ok-a1.a1 in
-    let a2 = c.in_ok-a2.a2 in
-    let b1 = c.in_ok-b1.b1 in
-    let b2 = c.in_ok-b2.b2 in
-    let check_is = both_proper a1.near a2.near b1.near b2.near (c.eq.ensures ∙ same_is a1.point a2.point) (c.eq-2.ensures ∙ same_is b1.point b2.point) in
-    ap answered c.segments_meet.ensures ∙ passed _ _ (sym check_is ∙ ap not c.if-eq.false)
-    ∙ (λ t. meeting (spot (c.in_ok-a1.ensures t)) (spot (c.in_ok-a2.ensures t)) (spot (c.in_ok-b1.ensures t)) (spot (c.in_ok-b2.ensures t)))
+    let s = c.args in
+    ap answered (c.is_some.ensures ∙ some_of c.in_ok-contact.field-0) ∙ ap met c.in_ok-contact.ensures ∙ meeting_is (spot s.a1) (spot s.a2) (spot s.b1) (spot s.b2)
