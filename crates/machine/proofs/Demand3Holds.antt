@@ -27,7 +27,7 @@ use Rattle.polygon.proofs.EachOnce.{ring_has}
 use Rattle.machine.proofs.Corners.{ring_apart}
 use Rattle.geometry.proofs.Points.{is_below}
 use Rattle.machine.proofs.Runs.{Corner}
-use Rattle.machine.proofs.EdgesMeet.{meet_edges_comm}
+use Rattle.machine.proofs.EdgesMeet.{meet_edges_is, meet_edges_comm}
 use Rattle.geometry.proofs.Meeting.{meets_decides}
 use Rattle.machine.proofs.Planned.{least}
 use Rattle.intersection_set.proofs.Records.{counted_is}
@@ -39,8 +39,7 @@ use Rattle.machine.proofs.Finish.{finish_ring, finish_edges, finish_is, finish_t
 
 module _ (n : ℕ) (pt : ℕ → Point) (board : Board n pt) where
   meeting_is : (e f : Edge) → pt e.lo ≢ pt e.hi → pt f.lo ≢ pt f.hi → (meet_edges pt e f ≡ true) ↔ Meet (pt e.lo) (pt e.hi) (pt f.lo) (pt f.hi)
-  unfolding meet_edges
-  meeting_is e f ne nf = meets_decides (pt e.lo) (pt e.hi) (pt f.lo) (pt f.hi) ne nf
+  meeting_is e f ne nf = rw (meet_edges_is pt e f) (meets_decides (pt e.lo) (pt e.hi) (pt f.lo) (pt f.hi) ne nf)
 
   -- ---- the fresh search
   module _ (r : List ℕ) (ring : IsRing n r) where

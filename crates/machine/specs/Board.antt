@@ -1,7 +1,8 @@
 -- A board: the points by number, and what is asked of them. Vertices of a ring, and how the ring turns there.
 use Rattle.std.specs.Prelude.{◌≡◌, Bool, not, List, ℕ, ◌≤◌, ◌<◌, ℤ, pos}
 use Rattle.geometry.specs.Plane.{Point, turn, collinear}
-use Rattle.geometry.specs.Segment.{inside, meets}
+use Rattle.geometry.specs.Segment.{inside}
+use Rattle.geometry.specs.Contact.{Kind, kind, some_contact}
 use Rattle.index_edge.specs.Edge.{Edge}
 use Rattle.polygon.specs.Ring.{next, prev, at}
 
@@ -23,9 +24,13 @@ pub record Board (n : ℕ) (pt : ℕ → Point) : Type 0 where
 abbrev pub pt_at : (ℕ → Point) → List ℕ → ℕ → Point
 pt_at pt r i = pt (at r i)
 
--- Two edges meet, by the ends that their numbers name.
+-- How two edges meet, by the ends that their numbers name.
+unfoldable pub kind_edges : (ℕ → Point) → Edge → Edge → Kind
+kind_edges pt e f = kind (pt e.lo) (pt e.hi) (pt f.lo) (pt f.hi)
+
+-- Two edges meet: the kind of their contact is not none.
 unfoldable pub meet_edges : (ℕ → Point) → Edge → Edge → Bool
-meet_edges pt e f = meets (pt e.lo) (pt e.hi) (pt f.lo) (pt f.hi)
+meet_edges pt e f = some_contact (kind_edges pt e f)
 
 module _ (n : ℕ) (pt : ℕ → Point) (r : List ℕ) (i : ℕ) where
   -- A ring point turns as the point before it, itself and the point after it do.

@@ -1,6 +1,6 @@
--- What is seen of two ring points from an edge tells whether it meets the edge between them.
+-- What is seen of two ring points from an edge tells how it meets the edge between them.
 use mathlib.Core.Path.{◌≡◌, sym, ap, ap₂, ◌∙◌}
-use mathlib.Core.Bool.{Bool, true, false, ◌&&◌, ◌||◌, cond, and-false, and-true}
+use mathlib.Core.Bool.{Bool, true, false, ◌&&◌, ◌||◌, cond, and-false}
 use mathlib.Core.Logic.{◌≢◌}
 use Prim.Native.Nat.{ℕ, ◌<◌}
 use native.Mathlib.Omega.{arith}
@@ -9,18 +9,23 @@ use lib.Signed.{lt_z}
 use lib.Dec.{eqb, ltb}
 use Rattle.algebra.specs.Cases.{both, true_or_false, eq_cases}
 use Rattle.geometry.specs.Plane.{Point, is_zero, eq_point, lt_point, min_point, max_point}
-use Rattle.geometry.specs.Segment.{same_side, shared, overlap, meets}
+use Rattle.std.specs.Option.{is_some}
+use Rattle.std.specs.Bool.{then_some}
+use Rattle.geometry.specs.Segment.{same_side, shared, overlap}
+use Rattle.geometry.specs.Contact.{kind, some_contact}
+use Rattle.geometry.specs.Answers.{without_ends}
+use Rattle.geometry.specs.declared.line_segment.ContactKind.TheVariants.{Overlap}
 use Rattle.geometry.specs.Lent.{InRange, order_key}
 use Rattle.geometry.specs.Spots.{spots}
 use Rattle.geometry.specs.declared.lent.Points.{Points}
 use Rattle.geometry.proofs.Points.{eq_point_same, eq_point_true}
 use Rattle.geometry.proofs.Reading.{here_in_range, here}
-use Rattle.geometry.proofs.MeetingParts.{meets_on_line, beside}
+use Rattle.geometry.proofs.MeetingParts.{kind_on_line, beside}
 use Rattle.geometry.proofs.Ordering.{key_lt, overlap_is}
-use Rattle.geometry.proofs.Symmetry.{meets_rev₂}
+use Rattle.geometry.proofs.Contacts.{meets_is, some_is, kind_rev₂}
 use Rattle.index_edge.specs.Edge.{Edge, edge}
 use Rattle.intersection_set.specs.Within.{Proper}
-use Rattle.machine.specs.Board.{meet_edges}
+use Rattle.machine.specs.Board.{kind_edges, meet_edges}
 use Rattle.machine.proofs.EdgesMeet.{meet_edges_comm}
 use Rattle.sweeps.specs.Sight.{Among, turn_to}
 use Rattle.sweeps.specs.declared.pair.Against.{Against}
@@ -47,15 +52,10 @@ module _ (ps : Points) {e f : Edge} (a : Among ps.n (spots ps) e f) where
   wanted_is Others t h = h ∙ comm ∙ sym (ap (λ (k : Bool). k && meet_edges (spots ps) f e) t)
   wanted_is Greater t h = h ∙ sym (ap (λ (k : Bool). k && meet_edges (spots ps) e f) t)
 
-  -- an edge that meets makes one where it is asked
-  pub met_asked : (b : Against) {r : Bool} → r ≡ asked b e f → true ≡ meet_edges (spots ps) e f → r ≡ wanted (spots ps) b e f
-  met_asked Others h t = h ∙ sym (and-true (asked Others e f)) ∙ ap (λ (k : Bool). asked Others e f && k) (t ∙ comm)
-  met_asked Greater h t = h ∙ sym (and-true (asked Greater e f)) ∙ ap (λ (k : Bool). asked Greater e f && k) t
-
   -- and none where it does not
-  pub unmet : (b : Against) → false ≡ meet_edges (spots ps) e f → false ≡ wanted (spots ps) b e f
-  unmet Others h = sym (and-false (asked Others e f)) ∙ ap (λ (k : Bool). asked Others e f && k) (h ∙ comm)
-  unmet Greater h = sym (and-false (asked Greater e f)) ∙ ap (λ (k : Bool). asked Greater e f && k) h
+  pub unmet : (b : Against) → meet_edges (spots ps) e f ≡ false → false ≡ wanted (spots ps) b e f
+  unmet Others h = sym (and-false (asked Others e f)) ∙ ap (λ (k : Bool). asked Others e f && k) (sym h ∙ comm)
+  unmet Greater h = sym (and-false (asked Greater e f)) ∙ ap (λ (k : Bool). asked Greater e f && k) (sym h)
 
 either_in_range : (t : Bool) {p q : Point} → InRange p → InRange q → InRange (cond t p q)
 either_in_range true h k = h
@@ -102,14 +102,23 @@ module _ (ps : Points) {e : Edge} (v w : ℕ) (a : Among ps.n (spots ps) e (edge
       ∙ sym (overlap_is p q (spots ps v) (spots ps w) (ends_differ ps a a.first) differ)
 
 module _ (pt : ℕ → Point) (e : Edge) (v w : ℕ) where
-  pub met_is : meets (pt e.lo) (pt e.hi) (pt v) (pt w) ≡ meet_edges pt e (edge v w)
+  pub kind_is : kind (pt e.lo) (pt e.hi) (pt v) (pt w) ≡ kind_edges pt e (edge v w)
+  unfolding kind_edges
+  kind_is = both (true_or_false (ltb v w)) (λ t. rw t) (λ t. rw t (sym (kind_rev₂ (pt e.lo) (pt e.hi) (pt v) (pt w))))
+
+  -- they meet where the kind, its ends left out, is some
+  pub some_met : is_some (without_ends (kind_edges pt e (edge v w))) ≡ meet_edges pt e (edge v w)
   unfolding meet_edges
-  met_is = both (true_or_false (ltb v w)) (λ t. rw t) (λ t. rw t (sym (meets_rev₂ (pt e.lo) (pt e.hi) (pt v) (pt w))))
+  some_met = some_is (kind_edges pt e (edge v w))
 
   -- both on its line: it is met where they overlap
-  pub met_on_line : {tv tw : ℤ} {k l o : Bool} → tv ≡ turn_to pt e v → tw ≡ turn_to pt e w → k ≡ is_zero tv → l ≡ is_zero tw → (k && l) ≡ true → o ≡ overlap (pt e.lo) (pt e.hi) (pt v) (pt w) → o ≡ meet_edges pt e (edge v w)
-  met_on_line ev ew ek el t eo = meets_on_line (pt e.lo) (pt e.hi) (pt v) (pt w) eo (sym (ap₂ ◌&&◌ (ek ∙ ap is_zero ev) (el ∙ ap is_zero ew)) ∙ t) ∙ met_is
+  pub kind_on_the_line : {tv tw : ℤ} {k l o : Bool} → tv ≡ turn_to pt e v → tw ≡ turn_to pt e w → k ≡ is_zero tv → l ≡ is_zero tw → (k && l) ≡ true → o ≡ overlap (pt e.lo) (pt e.hi) (pt v) (pt w)
+      → then_some o Overlap ≡ without_ends (kind_edges pt e (edge v w))
+  kind_on_the_line ev ew ek el t eo =
+      kind_on_line (pt e.lo) (pt e.hi) (pt v) (pt w) eo (sym (ap₂ ◌&&◌ (ek ∙ ap is_zero ev) (el ∙ ap is_zero ew)) ∙ t) ∙ ap without_ends kind_is
 
   -- both on one side: it is not met
-  pub not_met : {tv tw : ℤ} {k : Bool} → tv ≡ turn_to pt e v → tw ≡ turn_to pt e w → k ≡ same_side tv tw → k ≡ true → false ≡ meet_edges pt e (edge v w)
-  not_met ev ew h t = sym (beside (pt e.lo) (pt e.hi) (pt v) (pt w) (sym (λ i. same_side (ev i) (ew i)) ∙ sym h ∙ t)) ∙ met_is
+  pub not_met : {tv tw : ℤ} {k : Bool} → tv ≡ turn_to pt e v → tw ≡ turn_to pt e w → k ≡ same_side tv tw → k ≡ true → meet_edges pt e (edge v w) ≡ false
+  unfolding meet_edges
+  not_met ev ew h t =
+      sym (ap some_contact kind_is) ∙ meets_is (pt e.lo) (pt e.hi) (pt v) (pt w) ∙ beside (pt e.lo) (pt e.hi) (pt v) (pt w) (sym (λ i. same_side (ev i) (ew i)) ∙ sym h ∙ t)

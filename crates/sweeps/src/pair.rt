@@ -1,5 +1,5 @@
-// An edge and an edge of the ring: whether they meet, and what record they make.
-ghost use Rattle.std.specs.Prelude.{◌≡◌, ◌&&◌, ◌||◌, eqb};
+// An edge and an edge of the ring: how they meet, and what record they make.
+ghost use Rattle.std.specs.Prelude.{◌≡◌, true, false, ◌&&◌, ◌||◌, eqb};
 ghost use Rattle.std.specs.Int.Signed.{lt_z};
 ghost use Rattle.geometry.specs.Plane.{is_zero};
 ghost use Rattle.geometry.specs.Segment.{is_open};
@@ -8,7 +8,7 @@ ghost use Rattle.geometry.specs.Answers.{end_of, mark_of};
 ghost use Rattle.sweeps.specs.Sight.{Sight};
 
 use super::segment::{Seen, Segment};
-use geometry::line_segment::{EndPoint, LineSegment, same_side};
+use geometry::line_segment::{ContactKind, EndPoint, LineSegment, same_side};
 use geometry::point::NearPoint;
 use index_edge::{IndexEdge, PointId};
 use intersection_set::intersection_set::IndexIntersection;
@@ -50,10 +50,11 @@ fn keys_overlap(low: i64, high: i64, c: i64, d: i64) -> bool
 impl<'a> Pair<'a> {
     ghost use Rattle.std.specs.Prelude.{◌≡◌};
     ghost use Rattle.geometry.specs.Segment.{overlap};
+    ghost use Rattle.geometry.specs.Answers.{without_ends};
     ghost use Rattle.geometry.specs.Spots.{spots};
     ghost use Rattle.index_edge.specs.Edge.{edge as edge_between};
     ghost use Rattle.index_edge.specs.Number.{edge_of};
-    ghost use Rattle.machine.specs.Board.{meet_edges};
+    ghost use Rattle.machine.specs.Board.{kind_edges, meet_edges};
     ghost use Rattle.sweeps.specs.Sweep.{asked, wanted};
     ghost use Rattle.sweeps.specs.Found.{Found};
 
@@ -72,13 +73,13 @@ impl<'a> Pair<'a> {
         keys_overlap(self.a.low, self.a.high, self.from.key, self.to.key)
     }
 
-    // The edges meet, an end that they share left out. The points are read again: most pairs are settled without them (`is_wanted`).
-    pub fn intersects(self) -> bool
-        ensures { result ≡ meet_edges (spots self.entry.a.points) (edge_of self.entry.a.edge) (edge_between self.entry.from.id.0 self.entry.to.id.0) }
+    // How the edges meet, an end that they share left out. The points are read again: most pairs are settled without them (`is_apart`).
+    pub fn intersect(self) -> Option<ContactKind>
+        ensures { result ≡ without_ends (kind_edges (spots self.entry.a.points) (edge_of self.entry.a.edge) (edge_between self.entry.from.id.0 self.entry.to.id.0)) }
     {
         let Pair { a, from, to } = self;
         if self.on_line() {
-            return self.overlaps();
+            return self.overlaps().then_some(ContactKind::Overlap);
         }
         let segment = LineSegment {
             min: endpoint(a.edge.min, from.id, to.id, a.min),
@@ -88,7 +89,17 @@ impl<'a> Pair<'a> {
             min: endpoint(from.id, a.edge.min, a.edge.max, a.points.at(from.id)),
             max: endpoint(to.id, a.edge.min, a.edge.max, a.points.at(to.id)),
         };
-        segment.intersects(other, from.turn, to.turn)
+        segment.intersect(other, from.turn, to.turn)
+    }
+
+    // What tells most pairs apart at once: on one line the order of the ends, else that both points lie on one side.
+    fn is_apart(self) -> bool
+        ensures { result ≡ true → meet_edges (spots self.entry.a.points) (edge_of self.entry.a.edge) (edge_between self.entry.from.id.0 self.entry.to.id.0) ≡ false }
+    {
+        if self.on_line() {
+            return !self.overlaps();
+        }
+        same_side(self.from.turn, self.to.turn)
     }
 
     // The edge is compared with the other.
@@ -103,23 +114,17 @@ impl<'a> Pair<'a> {
         }
     }
 
-    // The two edges make a record. What tells most others at once is asked first: on one line the order of the ends, else that both points lie on one side.
+    // The two edges make a record: the edge is compared with the other, and the kind of their contact is not none.
     fn is_wanted(self, against: Against) -> bool
         ensures { result ≡ wanted (spots self.entry.a.points) against (edge_of self.entry.a.edge) (edge_between self.entry.from.id.0 self.entry.to.id.0) }
     {
-        if self.on_line() {
-            if !self.overlaps() {
-                return false;
-            }
-            return self.is_asked(against);
-        }
-        if same_side(self.from.turn, self.to.turn) {
+        if self.is_apart() {
             return false;
         }
         if !self.is_asked(against) {
             return false;
         }
-        self.intersects()
+        self.intersect().is_some()
     }
 
     // The record that they make, if they make one.
