@@ -51,6 +51,17 @@ static void show_feed(const char *title, size_t n, const int32_t *x, size_t x_le
     printf("%s: code %u feed %llu\n", title, (unsigned)f.code, (unsigned long long)f.feed);
 }
 
+/* How the segments from p[0], p[1] to p[2], p[3] and from p[4], p[5] to p[6], p[7] meet. */
+static void show_contact(const char *title, const int32_t *p) {
+    tour_kind k = tour_contact(p[0], p[1], p[2], p[3], p[4], p[5], p[6], p[7]);
+    printf("%s: ", title);
+    if (k.code != 0) printf("code %u\n", (unsigned)k.code);
+    else if (k.kind == TOUR_OVERLAP)
+        printf("overlap from %d %d%s to %d %d%s\n", (int)k.start.x, (int)k.start.y, k.start.is_open ? " open" : "", (int)k.stop.x, (int)k.stop.y,
+            k.stop.is_open ? " open" : "");
+    else printf("%s\n", k.kind == TOUR_CROSSING ? "crossing" : "none");
+}
+
 static void put_word(uint8_t *job, size_t *at, uint32_t w) {
     for (int k = 0; k < 4; k++) job[(*at)++] = (uint8_t)(w >> 8 * k);
 }
@@ -106,6 +117,10 @@ int main(void) {
     show_feed("feed, too far", 4, too_wide, 4, (uint16_t[]){0, 1, 2, 3});
     show_feed("feed, no ring", 4, wide, 4, (uint16_t[]){0, 2, 2, 3});
 
+    show_contact("a touch", (const int32_t[]){0, 0, 4, 0, 2, 0, 2, 3});
+    show_contact("a fold", (const int32_t[]){0, 0, 4, 0, 4, 0, 2, 0});
+    show_contact("one after the other", (const int32_t[]){0, 0, 2, 0, 2, 0, 4, 0});
+    show_contact("no segment", (const int32_t[]){0, 0, 0, 0, 1, 0, 2, 0});
     printf("meets: %u %u %u %u\n", (unsigned)tour_meets(0, 0, 4, 0, 2, 0, 2, 3), (unsigned)tour_meets(0, 0, 4, 0, 4, 0, 2, 0),
         (unsigned)tour_meets(0, 0, 2, 0, 2, 0, 4, 0), (unsigned)tour_meets(0, 0, 0, 0, 1, 0, 2, 0));
     return 0;

@@ -1,7 +1,7 @@
 //! A Rust host: the same calls as example.c, through the safe wrapper, with the same output. scripts/hosts.sh runs it.
 mod tour;
 
-use tour::{Answer, Buffers};
+use tour::{Answer, Buffers, Contact, End};
 
 /// The answer, and for a loop or a state the ring and the records left.
 fn show(title: &str, n: usize, answer: Answer, lent: &Buffers) {
@@ -22,6 +22,16 @@ fn show(title: &str, n: usize, answer: Answer, lent: &Buffers) {
 
 fn code<T>(answer: Result<T, u32>) -> u32 {
     answer.err().unwrap_or(0)
+}
+
+fn show_contact(title: &str, contact: Result<Option<Contact>, u32>) {
+    let end = |e: End| format!("{} {}{}", e.at[0], e.at[1], if e.is_open { " open" } else { "" });
+    match contact {
+        Ok(None) => println!("{title}: none"),
+        Ok(Some(Contact::Crossing)) => println!("{title}: crossing"),
+        Ok(Some(Contact::Overlap(start, stop))) => println!("{title}: overlap from {} to {}", end(start), end(stop)),
+        Err(code) => println!("{title}: code {code}"),
+    }
 }
 
 fn main() {
@@ -97,6 +107,15 @@ fn main() {
     ] {
         let fed = tour::feed(n, x, &y, &ring);
         println!("{title}: code {} feed {}", code(fed), fed.unwrap_or(0));
+    }
+
+    for (title, a, b) in [
+        ("a touch", [[0, 0], [4, 0]], [[2, 0], [2, 3]]),
+        ("a fold", [[0, 0], [4, 0]], [[4, 0], [2, 0]]),
+        ("one after the other", [[0, 0], [2, 0]], [[2, 0], [4, 0]]),
+        ("no segment", [[0, 0], [0, 0]], [[1, 0], [2, 0]]),
+    ] {
+        show_contact(title, tour::contact(a, b));
     }
 
     let met = [

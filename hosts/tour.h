@@ -85,7 +85,26 @@ typedef struct {
  * dx * dx + dy * dy. x, y and ring need n elements each and are only read. No loop has a feed of 2^40 or more. */
 tour_fed tour_feed(size_t n, const int32_t *x, size_t x_len, const int32_t *y, size_t y_len, const uint16_t *ring, size_t ring_len);
 
-/* 1: the segments a1 a2 and b1 b2 share a place that is not an end of both; 0: they do not; 3: refused. */
+/* How two segments meet elsewhere than in an end of both. */
+enum { TOUR_APART, TOUR_CROSSING, TOUR_OVERLAP };
+
+/* An end of an overlap; is_open is 1 where it is an end of both segments, else 0. */
+typedef struct {
+    int32_t x, y;
+    uint32_t is_open;
+} tour_end;
+
+/* code 0: kind is TOUR_APART where they do not, TOUR_CROSSING where they meet in one place, or TOUR_OVERLAP where they meet along a part, which goes from start to
+ * stop, in the order of x, then y. code 3: refused. What a code or a kind does not name is 0. */
+typedef struct {
+    uint32_t code, kind;
+    tour_end start, stop;
+} tour_kind;
+
+/* How the segments a1 a2 and b1 b2 meet. */
+tour_kind tour_contact(int32_t a1x, int32_t a1y, int32_t a2x, int32_t a2y, int32_t b1x, int32_t b1y, int32_t b2x, int32_t b2y);
+
+/* 1: the segments a1 a2 and b1 b2 meet, their kind is not TOUR_APART; 0: they do not; 3: refused. */
 uint32_t tour_meets(int32_t a1x, int32_t a1y, int32_t a2x, int32_t a2y, int32_t b1x, int32_t b1y, int32_t b2x, int32_t b2y);
 
 /* code 0: points and picks that were read. Any other code: a refusal (9 to 13, then 2). */

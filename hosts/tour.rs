@@ -24,6 +24,21 @@ mod raw {
     }
 
     #[repr(C)]
+    pub struct End {
+        pub x: i32,
+        pub y: i32,
+        pub is_open: u32,
+    }
+
+    #[repr(C)]
+    pub struct Kind {
+        pub code: u32,
+        pub kind: u32,
+        pub start: End,
+        pub stop: End,
+    }
+
+    #[repr(C)]
     pub struct Job {
         pub code: u32,
         pub points: usize,
@@ -40,6 +55,7 @@ mod raw {
                     reverse: *mut u16, reverse_len: usize, free: *mut u16, free_len: usize) -> Answer;)*
                 pub fn tour_ring_fault(n: usize, ring: *const u16, ring_len: usize) -> Fault;
                 pub fn tour_feed(n: usize, x: *const i32, x_len: usize, y: *const i32, y_len: usize, ring: *const u16, ring_len: usize) -> Fed;
+                pub safe fn tour_contact(a1x: i32, a1y: i32, a2x: i32, a2y: i32, b1x: i32, b1y: i32, b2x: i32, b2y: i32) -> Kind;
                 pub safe fn tour_meets(a1x: i32, a1y: i32, a2x: i32, a2y: i32, b1x: i32, b1y: i32, b2x: i32, b2y: i32) -> u32;
                 pub fn tour_read_job(job: *const u8, job_len: usize, x: *mut i32, x_len: usize, y: *mut i32, y_len: usize,
                     picks: *mut u32, picks_len: usize) -> Job;
@@ -151,7 +167,33 @@ pub fn feed(n: usize, x: &[i32], y: &[i32], ring: &[u16]) -> Result<u64, u32> {
     if fed.code == 0 { Ok(fed.feed) } else { Err(fed.code) }
 }
 
-/// Whether two segments share a place that is not an end of both; the error is the number of the refusal.
+/// An end of an overlap; an open one is an end of both segments.
+#[derive(Clone, Copy, Debug, PartialEq, Eq)]
+pub struct End {
+    pub at: [i32; 2],
+    pub is_open: bool,
+}
+
+/// How two segments meet elsewhere than in an end of both: in one place, or along a part, which goes from end to end in the order of x, then y.
+#[derive(Clone, Copy, Debug, PartialEq, Eq)]
+pub enum Contact {
+    Crossing,
+    Overlap(End, End),
+}
+
+/// How two segments meet, if they do; the error is the number of the refusal.
+pub fn contact(a: [[i32; 2]; 2], b: [[i32; 2]; 2]) -> Result<Option<Contact>, u32> {
+    let end = |e: raw::End| End { at: [e.x, e.y], is_open: e.is_open != 0 };
+    let told = raw::tour_contact(a[0][0], a[0][1], a[1][0], a[1][1], b[0][0], b[0][1], b[1][0], b[1][1]);
+    match (told.code, told.kind) {
+        (0, 0) => Ok(None),
+        (0, 1) => Ok(Some(Contact::Crossing)),
+        (0, _) => Ok(Some(Contact::Overlap(end(told.start), end(told.stop)))),
+        (code, _) => Err(code),
+    }
+}
+
+/// Whether they do.
 pub fn meets(a: [[i32; 2]; 2], b: [[i32; 2]; 2]) -> Result<bool, u32> {
     match raw::tour_meets(a[0][0], a[0][1], a[1][0], a[1][1], b[0][0], b[0][1], b[1][0], b[1][1]) {
         0 => Ok(false),

@@ -1,8 +1,11 @@
 -- What hosts are told: each answer in numbers.
-use Rattle.std.specs.Prelude.{Bool, true, false, cond, List, [], ◌∷◌, ℕ, eqb, ltb, ℤ, length, take, Option as Found, Result, Ok, Err}
-use Rattle.std.proofs.Math.Option.{Option, none, some}
+use Rattle.std.specs.Prelude.{Bool, true, false, cond, List, [], ◌∷◌, ℕ, eqb, ltb, ℤ, pos, length, take, Option as Found, Result, Ok, Err}
+use Rattle.std.proofs.Math.Option.{Option, none as nothing, some}
 use Rattle.refusal.specs.declared.Refusal.{Refusal}
 use Rattle.refusal.specs.Number.{number_of}
+use Rattle.geometry.specs.Plane.{Point}
+use Rattle.geometry.specs.Segment.{End, exclusive, inclusive}
+use Rattle.geometry.specs.Contact.{Kind, none, crossing, overlap}
 use Rattle.geometry.specs.Lent.{points}
 use Rattle.geometry.specs.Answers.{Answer as Told, refused as denied, answered}
 use Rattle.polygon.specs.Ring.{first_fault}
@@ -12,6 +15,8 @@ use Rattle.machine.specs.Answer.{Answer, refused, unfinished, delivered}
 use Rattle.checks.specs.Checks.{any_below, first_four}
 use Rattle.job.specs.declared.reader.Counts.{Counts}
 use Rattle.job.specs.Feed.{feed_of}
+use Rattle.host.specs.declared.meeting.TourEnd.{TourEnd}
+use Rattle.host.specs.declared.meeting.TourKind.{TourKind}
 use Rattle.host.specs.declared.loops.TourAnswer.{TourAnswer}
 use Rattle.host.specs.declared.job_file.TourJob.{TourJob}
 use Rattle.host.specs.declared.loop_feed.TourFeed.{TourFeed}
@@ -28,6 +33,21 @@ abbrev pub yes_or_no : Told Bool → ℕ
 yes_or_no (answered true) = 1
 yes_or_no (answered false) = 0
 yes_or_no (denied number) = number
+
+-- an end of an overlap: where it is, and 1 where it is open
+abbrev pub end_in_numbers : Point → End → TourEnd
+end_in_numbers p exclusive = record { x = p.x; y = p.y; is_open = 1 }
+end_in_numbers p inclusive = record { x = p.x; y = p.y; is_open = 0 }
+
+abbrev pub no_end : TourEnd
+no_end = record { x = pos 0; y = pos 0; is_open = 0 }
+
+-- 0 with the number of the kind, and the ends of an overlap; else the number of the refusal
+abbrev pub kind_in_numbers : Told Kind → TourKind
+kind_in_numbers (answered none) = record { code = 0; kind = 0; start = no_end; stop = no_end }
+kind_in_numbers (answered crossing) = record { code = 0; kind = 1; start = no_end; stop = no_end }
+kind_in_numbers (answered (overlap v m w k)) = record { code = 0; kind = 2; start = end_in_numbers v m; stop = end_in_numbers w k }
+kind_in_numbers (denied number) = record { code = number; kind = 0; start = no_end; stop = no_end }
 
 -- 0 for a job that is read, with its counts, else the number of the refusal
 abbrev pub job_in_numbers : Told Counts → TourJob
@@ -56,6 +76,6 @@ found (Err r) = denied (number_of r)
 
 -- 0 where no entry is at fault, 4 with the position of the first that is, else the number of the refusal
 abbrev pub fault_in_numbers : Told (Option ℕ) → TourFault
-fault_in_numbers (answered none) = record { code = 0; position = 0 }
+fault_in_numbers (answered nothing) = record { code = 0; position = 0 }
 fault_in_numbers (answered (some position)) = record { code = 4; position = position }
 fault_in_numbers (denied number) = record { code = number; position = 0 }
