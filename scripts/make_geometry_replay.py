@@ -5,13 +5,14 @@
 
 ORACLE is the original Rust, built as a program that reads one question on each line and answers it on a line of its own:
 `turn ax ay bx by cx cy` (1, 0 or -1), `contains ax ay o|c bx by o|c px py` (o: open end, c: closed end; 1 or 0) and
-`meet ax ay bx by cx cy dx dy` (1 or 0 first). It is asked whatever it has an answer to. What is refused is not its
+`meet ax ay bx by cx cy dx dy` (`0 none`, `1 crossing` or `1 overlap x y o|c x y o|c`). It is asked whatever it has an answer to. What is refused is not its
 business: a coordinate outside the limits, and a segment of equal ends, are refused by rule, with number 3.
 
 The format is told in crates/geometry_replay/src/main.rt.
 """
 import itertools
 import os
+import random
 import struct
 import subprocess
 import sys
@@ -36,6 +37,15 @@ def meets(points):
     return [(1, t) for t in itertools.product(points, repeat=4)]
 
 
+def anywhere(count):
+    """Segments over the whole range, and as many on one line, their points in any order and some of them equal."""
+    r = random.Random(1)
+    for _ in range(count):
+        yield 1, tuple((r.randint(-LIMIT, LIMIT), r.randint(-LIMIT, LIMIT)) for _ in range(4))
+        x, y, dx, dy = (r.randint(-LIMIT // 2, LIMIT // 2) for _ in range(4))
+        yield 1, tuple((x + k * (dx // 10), y + k * (dy // 10)) for k in (r.randint(-9, 9) for _ in range(4)))
+
+
 def nudged(points):
     """Each coordinate moved by one from its corner, inward or outward, in turn."""
     for i, (x, y) in enumerate(points):
@@ -54,7 +64,7 @@ def cases():
         found += [(0, u) for u in nudged(t)] + [(4, u) for u in nudged(t)]
     for t in itertools.permutations(corners):
         found += [(1, u) for u in nudged(t)]
-    return found
+    return found + list(anywhere(2000))
 
 
 def refused(kind, points):
@@ -73,9 +83,18 @@ def question(kind, points):
     return "contains %s %s %s %s %s" % (words[0], first, words[1], second, words[2])
 
 
-def letter(kind, line):
-    value = line.split()[0]
-    return {"1": "+", "0": "0", "-1": "-"}[value] if kind == 0 else {"1": "y", "0": "n"}[value]
+def contact(points, words):
+    if words[1] != "overlap":
+        return {"none": "n", "crossing": "x"}[words[1]]
+    start, stop = (1 + points.index((int(words[k]), int(words[k + 1]))) for k in (2, 5))
+    return "(["[words[4] == "c"] + "%d%d" % (start, stop) + ")]"[words[7] == "c"]
+
+
+def answer(kind, points, line):
+    words = line.split()
+    if kind == 1:
+        return contact(points, words)
+    return {"1": "+", "0": "0", "-1": "-"}[words[0]] if kind == 0 else {"1": "y", "0": "n"}[words[0]]
 
 
 def main():
@@ -85,14 +104,14 @@ def main():
     answers = subprocess.run([sys.argv[1]], input=lines, capture_output=True, text=True, check=True).stdout.splitlines()
     assert len(answers) == len(asked), (len(answers), len(asked))
     told = iter(answers)
-    letters = "".join("3" if refused(*c) else letter(c[0], next(told)) for c in found)
+    texts = ["3" if refused(*c) else answer(*c, next(told)) for c in found]
     with open(os.path.join(FOLDER, "stdin"), "wb") as out:
         for kind, points in found:
             words = [v for p in points for v in p]
             out.write(struct.pack("<I8i", kind, *(words + [0] * (8 - len(words)))))
     with open(os.path.join(FOLDER, "stdout"), "w") as out:
-        for i in range(0, len(letters), 81):
-            out.write(letters[i:i + 81] + "\n")
+        for i in range(0, len(texts), 81):
+            out.write("".join(texts[i:i + 81]) + "\n")
     print(len(found), "cases,", len(asked), "answered by the original,", len(found) - len(asked), "refused")
 
 
