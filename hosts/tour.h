@@ -94,8 +94,8 @@ typedef struct {
     uint32_t is_open;
 } tour_end;
 
-/* code 0: kind is TOUR_APART where they do not, TOUR_CROSSING where they meet in one place, or TOUR_OVERLAP where they meet along a part, which goes from start to
- * stop, in the order of x, then y. code 3: refused. What a code or a kind does not name is 0. */
+/* code 0: kind is TOUR_APART where they do not, TOUR_CROSSING where they meet in one place, or TOUR_OVERLAP where they meet along a part,
+ * which goes from start to stop, in the order of x, then y. code 3: refused. What a code or a kind does not name is 0. */
 typedef struct {
     uint32_t code, kind;
     tour_end start, stop;
