@@ -112,11 +112,13 @@ module _ (a a' b b' : Point) where
 
   -- they meet exactly where the kind is not none
   pub meets_is : some_contact (kind a a' b b') ≡ meets a a' b b'
+  unfolding overlap_of
   meets_is = by_cases (λ k. some_contact k ≡ meets a a' b b') sym (λ f. sym) (λ f. sym)
 
   module _ (na : a ≢ a') (nb : b ≢ b') where
     -- the kind that the test names is one that they have
     pub has_kind : HasKind a a' b b' (kind a a' b b')
+    unfolding overlap_of
     has_kind =
         let d = meets_decides a a' b b' na nb in
         by_cases (HasKind a a' b b')
@@ -170,14 +172,17 @@ apart e = let z : ◌≡◌ {A = ℕ} 0 1 = cc in absurd (omega arith)
 -- and tells the kind
 module _ (a a' b b' : Point) where
   pub is_none : None ≡ without_ends (kind a a' b b') → none ≡ kind a a' b b'
+  unfolding overlap_of
   is_none = by_cases a a' b b' (λ k. None ≡ without_ends k → none ≡ k)
       (λ e z. refl) (λ f e z. absurd (none-some Crossing z)) (λ f e z. absurd (none-some Overlap z))
 
   pub is_crossing : Some Crossing ≡ without_ends (kind a a' b b') → crossing ≡ kind a a' b b'
+  unfolding overlap_of
   is_crossing = by_cases a a' b b' (λ k. Some Crossing ≡ without_ends k → crossing ≡ k)
       (λ e z. absurd (none-some Crossing (sym z))) (λ f e z. refl) (λ f e z. apart (same_Some Crossing Overlap z))
 
   pub is_overlap : Some Overlap ≡ without_ends (kind a a' b b') → overlap_of a a' b b' ≡ kind a a' b b'
+  unfolding overlap_of
   is_overlap = by_cases a a' b b' (λ k. Some Overlap ≡ without_ends k → overlap_of a a' b b' ≡ k)
       (λ e z. absurd (none-some Overlap (sym z))) (λ f e z. apart (same_Some Crossing Overlap (sym z))) (λ f e z. refl)
 
@@ -189,7 +194,7 @@ module _ (a a' b b' c c' d d' : Point) (meet_is : meets a a' b b' ≡ meets c c'
   marked {w = w} e = ap (mark_at a a' b b') e ∙ ap (λ (t : Bool). cond t exclusive inclusive) (ends_are w)
 
   by_parts : kind a a' b b' ≡ kind c c' d d'
-  unfolding kind
+  unfolding kind overlap_of
   by_parts = λ i.
       cond (meet_is i) (cond (line_is i) (overlap (start_is i) (marked start_is i) (stop_is i) (marked stop_is i)) crossing) none
 

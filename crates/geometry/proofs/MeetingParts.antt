@@ -14,7 +14,7 @@ use Rattle.algebra.specs.Cases.{both, true_or_false, never}
 use Rattle.geometry.specs.Plane.{Point, turn, is_zero, collinear}
 use Rattle.std.specs.Bool.{then_some}
 use Rattle.geometry.specs.Segment.{same_side, shared, parallel, overlap, meets}
-use Rattle.geometry.specs.Contact.{kind}
+use Rattle.geometry.specs.Contact.{overlap_of, kind}
 use Rattle.geometry.specs.Answers.{without_ends}
 use Rattle.geometry.specs.declared.line_segment.ContactKind.TheVariants.{Crossing, Overlap}
 use Rattle.geometry.specs.Lent.{InRange}
@@ -27,7 +27,7 @@ pub on_line : (a b c d : Point) {p q : ℤ} → SFits w64 p → SFits w64 q → 
 on_line a b c d {p} {q} f g ep eq = ap₂ ◌&&◌ (zero_bits p f ∙ ap is_zero ep) (zero_bits q g ∙ ap is_zero eq)
 
 pub kind_on_line : (a b c d : Point) {o : Bool} → o ≡ overlap a b c d → parallel a b c d ≡ true → then_some o Overlap ≡ without_ends (kind a b c d)
-unfolding kind
+unfolding kind overlap_of
 kind_on_line a b c d {o} eo e = both (true_or_false o) (λ t. rw (t, e, sym eo ∙ t)) (λ t. rw (t, e, sym eo ∙ t))
 
 pub kind_off_line : (a b c d : Point) → parallel a b c d ≡ false

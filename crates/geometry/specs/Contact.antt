@@ -63,7 +63,7 @@ abbrev pub mark_at : Point → Point → Point → Point → Point → End
 mark_at a a' b b' v = cond (ends_both a a' b b' v) exclusive inclusive
 
 -- the overlap of two segments on one line
-abbrev pub overlap_of : Point → Point → Point → Point → Kind
+unfoldable pub overlap_of : Point → Point → Point → Point → Kind
 overlap_of a a' b b' = overlap (start_of a a' b b') (mark_at a a' b b' (start_of a a' b b')) (stop_of a a' b b') (mark_at a a' b b' (stop_of a a' b b'))
 
 -- Segments that meet overlap on one line, and cross off it.
