@@ -12,4 +12,4 @@ returns c =
     let stop = c.overlap_mark-2.ensures in
     let marks = mark_at (spot s.a) (spot s.b) (spot s.c) (spot s.d) in
     λ t.
-      overlap ((start.0 ∙ c.overlap_start.ensures) t) ((start.1 ∙ ap marks c.overlap_start.ensures) t) ((stop.0 ∙ c.overlap_end.ensures) t) ((stop.1 ∙ ap marks c.overlap_end.ensures) t)
+    overlap ((start.0 ∙ c.overlap_start.ensures) t) ((start.1 ∙ ap marks c.overlap_start.ensures) t) ((stop.0 ∙ c.overlap_end.ensures) t) ((stop.1 ∙ ap marks c.overlap_end.ensures) t)
