@@ -20,7 +20,7 @@ use Rattle.geometry.specs.Contact.{SamePlace, Overlap}
 use Rattle.geometry.proofs.Lines.{gap_pos, gap_le, same_x, same_y}
 use Rattle.algebra.specs.Cases.{and_left, and_right, both, true_or_false, never, or_cases}
 use Rattle.geometry.proofs.Crossing.{crossing, a_b, a_b', a'_b, a'_b'}
-use Rattle.geometry.proofs.Symmetry.{meets_rev, meets_rev₂, meets_swap}
+use Rattle.geometry.proofs.Symmetry.{line_rev, meets_rev, meets_rev₂, meets_swap}
 
 -- ---- a meeting depends on neither segment's direction, nor on their order, nor on which coordinate is first
 other : {v a a' : Point} → Ends v a a' → Ends v a' a
@@ -417,7 +417,7 @@ line_turned : (a a' b b' : Point) → OnLine a a' b b' → OnLine a' a b b'
 line_turned a a' b b' o = record { p0 = turned a a' b o.p0; q0 = turned a a' b' o.q0; r0 = o.s0; s0 = o.r0 }
   where
     turned : (a a' b : Point) → turn a a' b ≡ pos 0 → turn a' a b ≡ pos 0
-    turned = follows (pair ∷ pair ∷ pair ∷ []) (λ a a' b. (turn_of_edge a' a b := lit (pos 0)) ⇐ (hyp (lit (negsuc 0)) (turn_of_edge a a' b) (lit (pos 0)) ∷ [])) tt
+    turned a a' b h = zero_yes (turn a' a b) (line_rev a a' b ∙ zero_is (turn a a' b) h)
 
 told_sym : (a a' b b' : Point) → a ≢ a' → b ≢ b' → Told b b' a a' → Told a a' b b'
 told_sym a a' b b' na nb i =
