@@ -4,7 +4,7 @@ use Rattle.intersection_set.specs.Set.{SameBuffers}
 use Rattle.intersection_set.specs.declared.intersection_set.IndexIntersectionSet.{IndexIntersectionSet}
 
 pub same_start : (a : IndexIntersectionSet) → SameBuffers a a
-same_start a = record { vertices = refl; heads = refl; ends = refl; links = refl; dense = refl; reverse = refl; free = refl }
+same_start a = record { vertices = refl; heads = refl; ends = refl; links = refl; ages = refl; dense = refl; reverse = refl; free = refl }
 
 pub same_then : {a b c : IndexIntersectionSet} → SameBuffers a b → SameBuffers b c → SameBuffers a c
 same_then p q =
@@ -13,6 +13,7 @@ same_then p q =
       heads = q.heads ∙ p.heads;
       ends = q.ends ∙ p.ends;
       links = q.links ∙ p.links;
+      ages = q.ages ∙ p.ages;
       dense = q.dense ∙ p.dense;
       reverse = q.reverse ∙ p.reverse;
       free = q.free ∙ p.free;

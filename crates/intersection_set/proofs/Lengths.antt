@@ -10,6 +10,7 @@ use lib.Dec.{eqb}
 use lib.ListN.{length, get_or, set, length-set}
 use lib.Seq.{get_or-set_same, get_or-set_other, set-set}
 use borrow.Author.Tests.{eqb-true, eqb-false, eq-eqb, ne_eqb}
+use Rattle.std.proofs.lemmas.Bool.{cond_both}
 use Rattle.algebra.specs.Cases.{both, eq_cases}
 use Rattle.index_edge.specs.Edge.{Edge, eq_edge}
 use Rattle.index_edge.proofs.Edges.{eq_edge_refl, eq_edge_sym}
@@ -36,10 +37,15 @@ unfolding take_slot
 slot_lt n p g room = go (eqb p.counts.freed 0) refl
   where
     go : (b : Bool) → eqb p.counts.freed 0 ≡ b → (cond {A = Taken} b
-        (record { slot = p.counts.grown; counts = counts_of (p.counts.live + 1) (p.counts.grown + 1) 0 })
-        (record { slot = get_or p.free (p.counts.freed - 1) 0; counts = counts_of (p.counts.live + 1) p.counts.grown (p.counts.freed - 1) })).slot < n * (n - 1)
+        (record { slot = p.counts.grown; counts = counts_of (p.counts.live + 1) (p.counts.grown + 1) 0 p.counts.pushes })
+        (record { slot = get_or p.free (p.counts.freed - 1) 0; counts = counts_of (p.counts.live + 1) p.counts.grown (p.counts.freed - 1) p.counts.pushes })).slot < n * (n - 1)
     go true h = let z = eqb-true p.counts.freed 0 h in let s = g.split in omega arith
     go false h = let z = eqb-false p.counts.freed 0 h in g.frees (p.counts.freed - 1) (omega arith)
+
+-- taking a slot is no push yet
+pub taken_pushes : (c : Counts) (free : List ℕ) → (take_slot c free).counts.pushes ≡ c.pushes
+unfolding take_slot
+taken_pushes c free = cond_both (eqb c.freed 0) _ _ (λ (t : Taken). t.counts.pushes ≡ c.pushes) (λ _. refl) (λ _. refl)
 
 pub take_ok : (n : ℕ) (p : Pool) → Good n p → TakeOk p.counts p.free
 take_ok n p g =
@@ -150,6 +156,7 @@ pub record SameSize (p q : Pool) : Type 0 where
   pub next : length p.links.next ≡ length q.links.next
   pub prev : length p.links.prev ≡ length q.links.prev
   pub edges : length p.edges ≡ length q.edges
+  pub ages : length p.ages ≡ length q.ages
   pub dense : length p.order.dense ≡ length q.order.dense
   pub reverse : length p.order.reverse ≡ length q.order.reverse
   pub free : length p.free ≡ length q.free
@@ -161,6 +168,7 @@ sized_same z g =
       in_next = rw z.next g.in_next;
       in_prev = rw z.prev g.in_prev;
       in_edges = rw z.edges g.in_edges;
+      in_ages = rw z.ages g.in_ages;
       in_dense = rw z.dense g.in_dense;
       in_reverse = rw z.reverse g.in_reverse;
       in_free = rw z.free g.in_free;
@@ -174,6 +182,7 @@ sizes_push n e0 e1 p =
       next = simp (len_ends, length-set);
       prev = simp (len_ends, length-set);
       edges = simp length-set;
+      ages = simp length-set;
       dense = simp length-set;
       reverse = simp length-set;
       free = refl;
@@ -187,6 +196,7 @@ sizes_remove n s p =
       next = simp len_ends;
       prev = simp len_ends;
       edges = refl;
+      ages = refl;
       dense = simp length-set;
       reverse = simp length-set;
       free = length-set p.free p.counts.freed s;
@@ -207,11 +217,21 @@ module _ (n : ℕ) (e0 e1 : Edge) (p : Pool) (ok : PushOk n e0 e1 p) where
       → (y1 ≡ set_end m0 e0 s v y0) × (x1 ≡ x0)
       → (y2 ≡ set_end m1 e1 s v y1) × (x2 ≡ x1)
       → {f : List ℕ} → f ≡ p.free
-      → ◌≡◌ {A = Pool} (record { edges = v; links = record { heads = h2; next = x2; prev = y2 }; order = o; free = f; counts = c }) (pool_push n e0 e1 p)
+      → {a : List ℕ} → a ≡ p.ages
+      → ◌≡◌ {A = Pool}
+      (record {
+        edges = v;
+        links = record { heads = h2; next = x2; prev = y2 };
+        ages = set a s c.pushes;
+        order = o;
+        free = f;
+        counts = counts_of c.live c.grown c.freed (c.pushes + 1);
+      })
+      (pool_push n e0 e1 p)
   unfolding pool_push link_front
-  push_steps es ec eo t1 t2 w s1 s2 ef =
+  push_steps es ec eo t1 t2 w s1 s2 ef ea =
       let hs = slot_lt n p ok.good ok.room in
-      rw (s2.0, s2.1, s1.0, s1.1, w.1, w.2, w.0, t2.0, t2.1, t1.0, t1.1, eo, ec, ef, es, next_once n e0 e1 p _ ok hs (head_at n e0 p.links.heads) (head_at n e1 (set p.links.heads (head_place n e0) (take_slot p.counts p.free).slot)))
+      rw (s2.0, s2.1, s1.0, s1.1, w.1, w.2, w.0, t2.0, t2.1, t1.0, t1.1, eo, ec, ef, ea, es, next_once n e0 e1 p _ ok hs (head_at n e0 p.links.heads) (head_at n e1 (set p.links.heads (head_place n e0) (take_slot p.counts p.free).slot)))
 
 -- what the code reads of the record that goes
 pub record ReadAt (p : Pool) (s : ℕ) (e0 e1 : Edge) (n0 p0 n1 p1 : ℕ) : Type 0 where
@@ -229,15 +249,16 @@ pub read_at : (p : Pool) (s : ℕ) {e0 e1 : Edge} {n0 p0 n1 p1 : ℕ}
 read_at p s e l = record { edge0 = e.0; edge1 = e.1; next0 = l.0; prev0 = l.1; next1 = l.2; prev1 = l.3 }
 
 module _ (n s : ℕ) (p : Pool) {e0 e1 : Edge} {n0 p0 n1 p1 : ℕ} (z : ReadAt p s e0 e1 n0 p0 n1 p1) where
-  pub remove_steps : {o : Order} {f : List ℕ} {c : Counts} {l1 l2 : Links}
+  pub remove_steps : {o : Order} {f a : List ℕ} {c : Counts} {l1 l2 : Links}
       → l1 ≡ unlink_from n e0 n0 p0 p.edges p.links
       → l2 ≡ unlink_from n e1 n1 p1 p.edges l1
       → o ≡ dense_remove s p.counts.live p.order
       → f ≡ set p.free p.counts.freed s
-      → c ≡ counts_of (p.counts.live - 1) p.counts.grown (p.counts.freed + 1)
-      → ◌≡◌ {A = Pool} (record { edges = p.edges; links = l2; order = o; free = f; counts = c }) (pool_remove n s p)
+      → c ≡ counts_of (p.counts.live - 1) p.counts.grown (p.counts.freed + 1) p.counts.pushes
+      → a ≡ p.ages
+      → ◌≡◌ {A = Pool} (record { edges = p.edges; links = l2; ages = a; order = o; free = f; counts = c }) (pool_remove n s p)
   unfolding pool_remove
-  remove_steps el1 el2 eo ef ec = rw (el2, el1, eo, ef, ec, z.edge1, z.edge0, z.next0, z.prev0, z.next1, z.prev1)
+  remove_steps el1 el2 eo ef ec ea = rw (el2, el1, eo, ef, ec, ea, z.edge1, z.edge0, z.next0, z.prev0, z.next1, z.prev1)
 
 -- ---- a removal stays inside: an unlinking leaves what another needs
 unlink_still : {n : ℕ} {e : Edge} {x v : ℕ} {w : List Pair} {l : Links} (f : Edge) (y z : ℕ) → UnlinkOk n e x v w l → UnlinkOk n e x v w (unlink_from n f y z w l)

@@ -17,3 +17,4 @@ pub mod Starting
 pub mod Showing
 pub mod StoreFacts
 pub mod Buffers
+pub mod Ages

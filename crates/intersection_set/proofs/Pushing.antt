@@ -20,7 +20,7 @@ use Rattle.intersection_set.specs.Lists.{none, slot_of}
 use Rattle.intersection_set.specs.Pool as pool
 use Rattle.intersection_set.specs.Pool.{Ends, ends, no_ends, Pair, pair, no_pair, link_front, Pool, end0, end1, take_slot, put_edges, clear_ends, dense_push, pool_push, push_at, lesser, greater}
 use Rattle.intersection_set.specs.Within.{Proper, Sized, PushOk}
-use Rattle.intersection_set.specs.Holds.{Each, Sound, HeldIn, Stack, InOrder, Placed, Stored, Holds, MayPush}
+use Rattle.intersection_set.specs.Holds.{Each, Sound, HeldIn, AgedIn, Stack, InOrder, Placed, Stored, Holds, MayPush}
 use Rattle.intersection_set.proofs.Slots.{numbered_kept, free_below}
 use Rattle.intersection_set.proofs.Linked.{head_in}
 use Rattle.intersection_set.proofs.Draining.{reverse_push}
@@ -28,7 +28,7 @@ use Rattle.intersection_set.proofs.Chains.{Links, Chain, cond_fun, either, Rep, 
 use Rattle.intersection_set.proofs.HeadPlaces.{placed}
 use Rattle.intersection_set.proofs.Alike.{Same, same_then, front_same}
 use Rattle.intersection_set.proofs.Views.{view, At, link_is}
-use Rattle.intersection_set.proofs.Lengths.{inside_of, cap_small, len_ends, sizes_push, sized_same}
+use Rattle.intersection_set.proofs.Lengths.{inside_of, cap_small, taken_pushes, len_ends, sizes_push, sized_same}
 use Rattle.intersection_set.proofs.Holding.{each_push, differ, Near, reach, LiveAt, chain_live, near_head, rep_same, holds_good, lists, lists_of, holds_of}
 
 abbrev pub new_rec : Edge → Edge → Store → Rec
@@ -207,10 +207,10 @@ module _ (n : ℕ) (p : Pool) (s : Store) (h : Stored n p s) (rep : lists n p s)
       (twice_is n v l r long sr here xm (λ q. omega (arith, xm, q, cap)) near other pv)
       (rep_push none (Placed n) s k a b ab (placed pa) (placed pb) h.numbered (omega (arith, h.room, cap)) rep1)
 
-  pub push_ok : PushOk n (new_rec a b s).e0 (new_rec a b s).e1 p
-  push_ok =
+  pub push_ok : s.pushes + 1 < 4294967296 → PushOk n (new_rec a b s).e0 (new_rec a b s).e1 p
+  push_ok young =
       let sr : Sound n (new_rec a b s) = new_sound n a b s pa pb ab in
-      record { good = holds_good n p s h rep; edge0 = sr.first; edge1 = sr.second; differ = differ sr; room = omega (arith, h.live) }
+      record { good = holds_good n p s h rep; edge0 = sr.first; edge1 = sr.second; differ = differ sr; room = omega (arith, h.live); young = omega (arith, young, h.pushed) }
 
   sized : Sized n (push_at n (new_rec a b s).e0 (new_rec a b s).e1 (take_slot p.counts p.free).slot (take_slot p.counts p.free).counts p)
   unfolding pool_push
@@ -231,6 +231,14 @@ module _ (n : ℕ) (p : Pool) (s : Store) (h : Stored n p s) (rep : lists n p s)
       ∙ h.order j k
       ∙ sym (ap slot_of (get_or-append s.dense (new_rec a b s ∷ []) no_rec j k)))
 
+  -- the new record's age is the count of pushes, the others are as they were
+  aged_push : {v : ℕ} → v ≡ s.pushes → Each (AgedIn (set p.ages (new_rec a b s).slot v)) (plain.push a b s).dense
+  aged_push {v} e =
+      let r : Rec = new_rec a b s in
+      each_push (AgedIn (set p.ages r.slot v)) s.dense r
+      (λ j i. get_or-set_other p.ages r.slot (get_or s.dense j no_rec).slot v 0 (new_slot j i) ∙ h.aged j i)
+      (get_or-set_same p.ages r.slot v 0 (inside_of took.below h.sizes.in_ages) ∙ e)
+
   at_slot : Stored n (push_at n (new_rec a b s).e0 (new_rec a b s).e1 (new_rec a b s).slot (take_slot p.counts p.free).counts p) (plain.push a b s)
   unfolding put_edges dense_push
   at_slot =
@@ -249,6 +257,8 @@ module _ (n : ℕ) (p : Pool) (s : Store) (h : Stored n p s) (rep : lists n p s)
         frees = took.stack;
         sound = each_push (Sound n) s.dense r h.sound (new_sound n a b s pa pb ab);
         held = each_push (HeldIn (wrote r p.edges)) s.dense r (wrote_held n p s h rep r xm new_slot) (wrote_here n p s h rep r xm new_slot);
+        pushed = omega (arith, taken_pushes p.counts p.free, h.pushed);
+        aged = aged_push (taken_pushes p.counts p.free ∙ h.pushed);
       }
 
   lists_at_slot : lists n (push_at n (new_rec a b s).e0 (new_rec a b s).e1 (new_rec a b s).slot (take_slot p.counts p.free).counts p) (plain.push a b s)
@@ -264,7 +274,7 @@ module _ (n : ℕ) (p : Pool) (s : Store) (h : Stored n p s) (rep : lists n p s)
 -- ---- what a caller uses
 module _ (n : ℕ) (p : Pool) (s : Store) (h : Holds n p s) (a b : Edge) where
   pub may_push : MayPush n a b s → PushOk n (lesser a b) (greater a b) p
-  may_push m = push_ok n p s h.stored (lists_of n p s h) a b m.first m.second m.differ m.room
+  may_push m = push_ok n p s h.stored (lists_of n p s h) a b m.first m.second m.differ m.room m.young
 
   -- buffers that hold a store, after a push, hold the store after the push
   pub holds_push : MayPush n a b s → Holds n (pool_push n (lesser a b) (greater a b) p) (plain.push a b s)

@@ -18,7 +18,7 @@ use Rattle.intersection_set.specs.Lists.{none, slot_of}
 use Rattle.intersection_set.specs.Pool as pool
 use Rattle.intersection_set.specs.Pool.{no_ends, Pair, Pool, end0, end1, dense_remove, unlink_from, pool_remove, pool_remove_all, head_at}
 use Rattle.intersection_set.specs.Within.{Proper, RemoveOk, HeadOk, Drained}
-use Rattle.intersection_set.specs.Holds.{Sound, HeldIn, InOrder, Stack, Placed, Stored, Holds}
+use Rattle.intersection_set.specs.Holds.{Sound, HeldIn, AgedIn, InOrder, Stack, Placed, Stored, Holds}
 use Rattle.intersection_set.proofs.Records.{Newest, newest_is}
 use Rattle.intersection_set.proofs.Slots.{numbered_kept, slot_below, swap_remove_length}
 use Rattle.intersection_set.proofs.Draining.{stays, reverse_remove, swap_other, swap_here}
@@ -204,6 +204,8 @@ module _ (n : ℕ) (p : Pool) (s : Store) (h : Stored n p s) (rep : lists n p s)
         reverse = rw (spot_is, last_is) (reverse_remove s j p.order.reverse h.numbered i (omega (arith, h.room, h.sizes.in_reverse)) h.reverse);
         frees = subst⁻¹ (λ (f : List ℕ). Stack f (rec.slot ∷ s.free)) (rw h.freed refl) (get_or-set_same p.free (length s.free) rec.slot 0 (omega (arith, h.room, h.sizes.in_free)), stack_set p.free (length s.free) rec.slot s.free (omega arith) h.frees);
         held = each_remove (HeldIn p.edges) s.dense j i h.held;
+        pushed = h.pushed;
+        aged = each_remove (AgedIn p.ages) s.dense j i h.aged;
       }
 
   lists_removed : lists n (pool_remove n rec.slot p) left

@@ -106,4 +106,4 @@ module _ (n : ℕ) (p : Pool) (s : Store) (h : Holds n p s) where
 pub shows : (n : ℕ) (b : Buffers) (c : Counts) (s : Store) → Holds n (pool_of b c) s → Shows n b s
 shows n b c s h =
     let p : Pool = pool_of b c in
-    record { heads = heads_are n p s h; dense = dense_is n p s h; reverse = reverse_is n p s h; free = free_is n p s h; edges = h.stored.held; linked = h.linked }
+    record { heads = heads_are n p s h; dense = dense_is n p s h; reverse = reverse_is n p s h; free = free_is n p s h; edges = h.stored.held; linked = h.linked; ages = h.stored.aged }

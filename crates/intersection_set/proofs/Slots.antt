@@ -119,17 +119,18 @@ module _ (s : Store) (pool : Numbered s) where
       both (true_or_false (ltb a g)) (ltb-true a g)
       (λ u. absurd (omega (arith, pool.slots a, ap one u, count_at (eqb a) s.free k 0 h (eq-eqb a a refl))))
 
--- ---- how many slots are grown: a push grows one only where none is free, so never past the most that lived
+-- ---- how many slots are grown, and how many pushes made: a push grows a slot only where none is free, so never past the most that lived
 pub record Grows (s t : Store) : Type 0 where
   pub more : length s.dense ≤ length t.dense
   pub most : grown t ≤ max (grown s) (length t.dense)
   pub up : grown s ≤ grown t
+  pub pushed : s.pushes ≤ t.pushes
 
 pub grows_same : (s : Store) → Grows s s
-grows_same s = record { more = omega arith; most = omega arith; up = omega arith }
+grows_same s = record { more = omega arith; most = omega arith; up = omega arith; pushed = omega arith }
 
 pub grows_then : (s t u : Store) → Grows s t → Grows t u → Grows s u
-grows_then s t u p q = record { more = omega arith; most = omega arith; up = omega arith }
+grows_then s t u p q = record { more = omega arith; most = omega arith; up = omega arith; pushed = omega arith }
 
 last : Edge → Edge → Store → Rec
 last e f s = rec_for e f s.pushes (slot_for s.free (length s.dense))
@@ -142,11 +143,11 @@ push_grows e f s = go s.free refl
     go [] h =
         let z : length (rest s.free) ≡ 0 = ap (λ (x : List ℕ). length (rest x)) h in
         let z' : length s.free ≡ 0 = ap length h in
-        record { more = omega (arith, length_snoc s.dense (last e f s)); most = omega (arith, length_snoc s.dense (last e f s)); up = omega (arith, length_snoc s.dense (last e f s)) }
+        record { more = omega (arith, length_snoc s.dense (last e f s)); most = omega (arith, length_snoc s.dense (last e f s)); up = omega (arith, length_snoc s.dense (last e f s)); pushed = omega arith }
     go (a ∷ l) h =
         let z : length (rest s.free) ≡ length l = ap (λ (x : List ℕ). length (rest x)) h in
         let z' : length s.free ≡ suc (length l) = ap length h in
-        record { more = omega (arith, length_snoc s.dense (last e f s)); most = omega (arith, length_snoc s.dense (last e f s)); up = omega (arith, length_snoc s.dense (last e f s)) }
+        record { more = omega (arith, length_snoc s.dense (last e f s)); most = omega (arith, length_snoc s.dense (last e f s)); up = omega (arith, length_snoc s.dense (last e f s)); pushed = omega arith }
 
 pub push_if_grows : (b : Bool) (f e : Edge) (s : Store) → Grows s (cond b (push f e s) s)
 push_if_grows true f e s = push_grows f e s

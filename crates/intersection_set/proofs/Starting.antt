@@ -15,6 +15,7 @@ sized_lent b c z =
       in_next = rw (length-map b.links nexts_in) z.in_links;
       in_prev = rw (length-map b.links prevs_in) z.in_links;
       in_edges = rw (length-map b.ends pair_of) z.in_ends;
+      in_ages = z.in_ages;
       in_dense = z.in_dense;
       in_reverse = z.in_reverse;
       in_free = z.in_free;
@@ -25,4 +26,4 @@ pub sized_cleared : {n : ℕ} (b : Buffers) {d : Buffers} (c : Counts) → d ≡
 sized_cleared b c e z =
     rw e
     (sized_lent (cleared b) c
-    (record { in_heads = rw length-replicate z.in_heads; in_ends = z.in_ends; in_links = z.in_links; in_dense = z.in_dense; in_reverse = z.in_reverse; in_free = z.in_free }))
+    (record { in_heads = rw length-replicate z.in_heads; in_ends = z.in_ends; in_links = z.in_links; in_ages = z.in_ages; in_dense = z.in_dense; in_reverse = z.in_reverse; in_free = z.in_free }))

@@ -1,5 +1,5 @@
 -- The buffers hold a store.
-use Rattle.std.specs.Prelude.{◌≡◌, true, false, List, [], ◌∷◌, map, ℕ, suc, ◌-◌, ◌*◌, ◌≤◌, ◌<◌, length, get_or, take}
+use Rattle.std.specs.Prelude.{◌≡◌, true, false, List, [], ◌∷◌, map, ℕ, suc, ◌+◌, ◌-◌, ◌*◌, ◌≤◌, ◌<◌, length, get_or, take}
 use Rattle.index_edge.specs.Edge.{Edge, eq_edge, lt_edge}
 use Rattle.intersection_set.specs.Store.{Rec, Store, no_rec, grown}
 use Rattle.intersection_set.specs.Numbered.{Numbered}
@@ -20,6 +20,10 @@ pub record Sound (n : ℕ) (r : Rec) : Type 0 where
 -- its edges stand at its slot
 abbrev pub HeldIn : List Pair → Rec → Type 0
 HeldIn v r = (end0 v r.slot ≡ r.e0) × (end1 v r.slot ≡ r.e1)
+
+-- so does its age
+abbrev pub AgedIn : List ℕ → Rec → Type 0
+AgedIn a r = get_or a r.slot 0 ≡ r.age
 
 -- and so do its links along both edges' lists
 pub record LinkedIn (l : Links) (s : Store) (r : Rec) : Type 0 where
@@ -44,7 +48,7 @@ Stack q (a ∷ l) = (get_or q (length l) 0 ≡ a) × Stack q l
 abbrev pub Placed : ℕ → Edge → Type 0
 Placed n e = (e.hi < n) × (suc e.lo < n)
 
--- the pool p of n points holds the records of s, their order and the free slots
+-- the pool p of n points holds the records of s with their ages, their order and the free slots, and counts the pushes
 pub record Stored (n : ℕ) (p : Pool) (s : Store) : Type 0 where
   pub small : n ≤ 256
   pub sizes : Sized n p
@@ -58,6 +62,8 @@ pub record Stored (n : ℕ) (p : Pool) (s : Store) : Type 0 where
   pub reverse : Reverse s.dense p.order.reverse
   pub frees : Stack p.free s.free
   pub held : Each (HeldIn p.edges) s.dense
+  pub pushed : p.counts.pushes ≡ s.pushes
+  pub aged : Each (AgedIn p.ages) s.dense
 
 -- and every list: heads in full, and each live record's links
 pub record Holds (n : ℕ) (p : Pool) (s : Store) : Type 0 where
@@ -73,6 +79,7 @@ pub record Shows (n : ℕ) (b : Buffers) (s : Store) : Type 0 where
   pub free : take (length s.free) b.free ≡ stack_of s.free
   pub edges : Each (HeldIn (edges_of b.ends)) s.dense
   pub linked : Each (LinkedIn (links_of b.heads b.links) s) s.dense
+  pub ages : Each (AgedIn b.ages) s.dense
 
 -- what a push of a and b asks of the store
 pub record MayPush (n : ℕ) (a b : Edge) (s : Store) : Type 0 where
@@ -80,3 +87,4 @@ pub record MayPush (n : ℕ) (a b : Edge) (s : Store) : Type 0 where
   pub second : Proper n b
   pub differ : eq_edge a b ≡ false
   pub room : length s.dense < n * (n - 1)
+  pub young : s.pushes + 1 < 4294967296

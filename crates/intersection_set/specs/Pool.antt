@@ -66,6 +66,7 @@ order dense reverse = record { dense = dense; reverse = reverse }
 pub record Pool : Type 0 where
   pub edges : List Pair
   pub links : Links
+  pub ages : List ℕ
   pub order : Order
   pub free : List ℕ
   pub counts : Counts
@@ -75,26 +76,29 @@ pub record Buffers : Type 0 where
   pub heads : List ℕ
   pub ends : List ℕ
   pub links : List ℕ
+  pub ages : List ℕ
   pub dense : List ℕ
   pub reverse : List ℕ
   pub free : List ℕ
 
-abbrev pub lent : List ℕ → List ℕ → List ℕ → List ℕ → List ℕ → List ℕ → Buffers
-lent heads ends links dense reverse free = record { heads = heads; ends = ends; links = links; dense = dense; reverse = reverse; free = free }
+abbrev pub lent : List ℕ → List ℕ → List ℕ → List ℕ → List ℕ → List ℕ → List ℕ → Buffers
+lent heads ends links ages dense reverse free =
+    record { heads = heads; ends = ends; links = links; ages = ages; dense = dense; reverse = reverse; free = free }
 
 abbrev pub pool_of : Buffers → Counts → Pool
 pool_of b c =
     record {
       edges = edges_of b.ends;
       links = links_of b.heads b.links;
+      ages = b.ages;
       order = order b.dense b.reverse;
       free = b.free;
       counts = c;
     }
 
 -- ---- slots
-abbrev pub counts_of : ℕ → ℕ → ℕ → Counts
-counts_of live grown freed = record { live = live; grown = grown; freed = freed }
+abbrev pub counts_of : ℕ → ℕ → ℕ → ℕ → Counts
+counts_of live grown freed pushes = record { live = live; grown = grown; freed = freed; pushes = pushes }
 
 -- a slot that was taken, and the counts after it
 pub record Taken : Type 0 where
@@ -105,8 +109,8 @@ pub record Taken : Type 0 where
 unfoldable pub take_slot : Counts → List ℕ → Taken
 take_slot c free =
     cond (eqb c.freed 0)
-    (record { slot = c.grown; counts = counts_of (c.live + 1) (c.grown + 1) 0 })
-    (record { slot = get_or free (c.freed - 1) 0; counts = counts_of (c.live + 1) c.grown (c.freed - 1) })
+    (record { slot = c.grown; counts = counts_of (c.live + 1) (c.grown + 1) 0 c.pushes })
+    (record { slot = get_or free (c.freed - 1) 0; counts = counts_of (c.live + 1) c.grown (c.freed - 1) c.pushes })
 
 -- a slot is appended to the dense order
 unfoldable pub dense_push : ℕ → ℕ → Order → Order
@@ -165,16 +169,17 @@ clear_ends s x = set x s (ends none none)
 abbrev pub clear_links : ℕ → Links → Links
 clear_links s l = record { heads = l.heads; next = clear_ends s l.next; prev = clear_ends s l.prev }
 
--- a record of e0 and e1 at the slot s, in front of both lists
+-- a record of e0 and e1 at the slot s, in front of both lists; its age is the count of pushes before it
 abbrev pub push_at : ℕ → Edge → Edge → ℕ → Counts → Pool → Pool
 push_at n e0 e1 s c p =
     let v = put_edges s e0 e1 p.edges in
     record {
       edges = v;
       links = link_front n e1 s v (link_front n e0 s v (clear_links s p.links));
+      ages = set p.ages s c.pushes;
       order = dense_push s p.counts.live p.order;
       free = p.free;
-      counts = c;
+      counts = counts_of c.live c.grown c.freed (c.pushes + 1);
     }
 
 unfoldable pub pool_push : ℕ → Edge → Edge → Pool → Pool
@@ -199,9 +204,10 @@ pool_remove n s p =
     record {
       edges = p.edges;
       links = unlink_both n s p;
+      ages = p.ages;
       order = dense_remove s p.counts.live p.order;
       free = set p.free p.counts.freed s;
-      counts = counts_of (p.counts.live - 1) p.counts.grown (p.counts.freed + 1);
+      counts = counts_of (p.counts.live - 1) p.counts.grown (p.counts.freed + 1) p.counts.pushes;
     }
 
 -- newest first, at most as many as the number says

@@ -8,7 +8,7 @@ abbrev pub order_in : IndexIntersectionSet → Order
 order_in s = order s.dense.now s.reverse.now
 
 abbrev pub buffers_in : IndexIntersectionSet → Buffers
-buffers_in s = lent s.heads.now s.ends.now s.links.now s.dense.now s.reverse.now s.free.now
+buffers_in s = lent s.heads.now s.ends.now s.links.now s.ages.now s.dense.now s.reverse.now s.free.now
 
 abbrev pub pool_in : IndexIntersectionSet → Pool
 pool_in s = pool_of (buffers_in s) s.counts
@@ -19,15 +19,17 @@ pub record SameBuffers (a b : IndexIntersectionSet) : Type 0 where
   pub heads : b.heads.ghost_name ≡ a.heads.ghost_name
   pub ends : b.ends.ghost_name ≡ a.ends.ghost_name
   pub links : b.links.ghost_name ≡ a.links.ghost_name
+  pub ages : b.ages.ghost_name ≡ a.ages.ghost_name
   pub dense : b.dense.ghost_name ≡ a.dense.ghost_name
   pub reverse : b.reverse.ghost_name ≡ a.reverse.ghost_name
   pub free : b.free.ghost_name ≡ a.free.ghost_name
 
--- The records and the edges' lists are as they were.
+-- The records, the edges' lists and the ages are as they were.
 pub record SameLists (a b : IndexIntersectionSet) : Type 0 where
   pub heads : b.heads.now ≡ a.heads.now
   pub ends : b.ends.now ≡ a.ends.now
   pub links : b.links.now ≡ a.links.now
+  pub ages : b.ages.now ≡ a.ages.now
 
 -- every head is none, the rest as it was
 abbrev pub cleared : Buffers → Buffers

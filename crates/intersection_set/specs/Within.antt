@@ -51,6 +51,7 @@ pub record Sized (n : ℕ) (p : Pool) : Type 0 where
   pub in_next : length p.links.next ≡ n * (n - 1)
   pub in_prev : length p.links.prev ≡ n * (n - 1)
   pub in_edges : length p.edges ≡ n * (n - 1)
+  pub in_ages : length p.ages ≡ n * (n - 1)
   pub in_dense : length p.order.dense ≡ n * (n - 1)
   pub in_reverse : length p.order.reverse ≡ n * (n - 1)
   pub in_free : length p.free ≡ n * (n - 1)
@@ -60,6 +61,7 @@ pub record Room (n : ℕ) (b : Buffers) : Type 0 where
   pub in_heads : length b.heads ≡ n * (n - 1)
   pub in_ends : length b.ends ≡ n * (n - 1)
   pub in_links : length b.links ≡ n * (n - 1)
+  pub in_ages : length b.ages ≡ n * (n - 1)
   pub in_dense : length b.dense ≡ n * (n - 1)
   pub in_reverse : length b.reverse ≡ n * (n - 1)
   pub in_free : length b.free ≡ n * (n - 1)
@@ -79,6 +81,7 @@ pub record PushOk (n : ℕ) (e0 e1 : Edge) (p : Pool) : Type 0 where
   pub edge1 : Proper n e1
   pub differ : eq_edge e0 e1 ≡ false
   pub room : p.counts.live < n * (n - 1)
+  pub young : p.counts.pushes + 1 < 4294967296
 
 pub record RemoveOk (n s : ℕ) (p : Pool) : Type 0 where
   pub in_edges : s < length p.edges

@@ -2,7 +2,8 @@
 //
 // A record is two words, indexed by its slot, each of four 16-bit numbers, the first lowest. `ends` has the points of its edges: edge0's min
 // and max, edge1's min and max. `links` has its links along their lists: next and previous along edge0, next and previous along edge1.
-// `heads` has each edge's newest record. The buffers are lent and of fixed 16-bit parts, as the C interface has them.
+// `ages` has its age, the count of pushes made before it. `heads` has each edge's newest record. The buffers are lent, and of parts of fixed size, as the C
+// interface has them.
 ghost use Rattle.std.specs.Prelude.{◌≡◌, not, map, ℕ, ◌<◌, ◌≤◌, length, get_or, set, eqb};
 ghost use Rattle.index_edge.specs.Edge.{Edge};
 ghost use Rattle.index_edge.specs.Number.{edge_of};
@@ -236,13 +237,14 @@ fn unlink(
 
 // The records of a ring of `vertices` points, in lent buffers of n×(n-1) entries each. What they hold is a store of records (`Holds`). The slots' buffers
 // lie flat beside the others: with a struct for them inside this one, a caller's proof does not learn what its buffers hold afterwards. Nor is the store a
-// field or a model of it: a ghost field is a proposition, and the ages of the records stand in no buffer.
+// field: a ghost field is a proposition.
 #[derive(Drop)]
 pub struct IndexIntersectionSet<'a> {
     pub vertices: usize,
     pub heads: &'a mut [u16],
     pub ends: &'a mut [u64],
     pub links: &'a mut [u64],
+    pub ages: &'a mut [u32],
     pub dense: &'a mut [u16],
     pub reverse: &'a mut [u16],
     pub free: &'a mut [u16],
@@ -254,7 +256,7 @@ impl<'a> IndexIntersectionSet<'a> {
     pub fn clear(&mut self)
         ensures same { SameBuffers self.old self.new }
         ensures heads { buffers_in self.new ≡ cleared (buffers_in self.old) }
-        ensures counts { self.new.counts ≡ counts_of 0 0 0 }
+        ensures counts { self.new.counts ≡ counts_of 0 0 0 0 }
         ensures empty { (n : ℕ) → n ≤ 256 → Sized n (pool_in self.new) → Holds n (pool_in self.new) empty }
     {
         self.heads.fill(NONE);
@@ -262,6 +264,7 @@ impl<'a> IndexIntersectionSet<'a> {
             live: 0,
             grown: 0,
             freed: 0,
+            pushes: 0,
         };
     }
 
@@ -285,7 +288,7 @@ impl<'a> IndexIntersectionSet<'a> {
         SparseIndex::read(self.heads[place(self.vertices, e)])
     }
 
-    // Records two edges that meet: in a slot of its own, in front of both edges' lists.
+    // Records two edges that meet, with its age: in a slot of its own, in front of both edges' lists.
     pub fn push(&mut self, isect: IndexIntersection)
         requires { PushOk self.old.vertices (edge_of isect.min) (edge_of isect.max) (pool_in self.old) }
         ensures same { SameBuffers self.old self.new }
@@ -296,6 +299,8 @@ impl<'a> IndexIntersectionSet<'a> {
     {
         let n = self.vertices;
         let s = self.alloc();
+        self.ages[s.0 as usize] = self.counts.pushes;
+        self.counts.pushes += 1;
         let next0 = take_head(n, isect.min, s, self.heads);
         let next1 = take_head(n, isect.max, s, self.heads);
         let ends = &mut *self.ends;

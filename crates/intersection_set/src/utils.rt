@@ -7,12 +7,13 @@ ghost use Rattle.intersection_set.specs.Set.{SameBuffers, SameLists, order_in};
 use crate::intersection_set::IndexIntersectionSet;
 use crate::sparse_index::SparseIndex;
 
-// How many slots are in use, how many were grown so far, and how many of these are free again.
+// How many slots are in use, how many were grown so far, how many of these are free again, and how many pushes were made: the age of the next record.
 #[derive(Clone, Copy)]
 pub struct Counts {
     pub live: usize,
     pub grown: usize,
     pub freed: usize,
+    pub pushes: u32,
 }
 
 impl<'a> IndexIntersectionSet<'a> {
@@ -62,7 +63,7 @@ impl<'a> IndexIntersectionSet<'a> {
         ensures same { SameBuffers self.old self.new × SameLists self.old self.new }
         ensures order { order_in self.new ≡ dense_remove s.0 self.old.counts.live (order_in self.old) }
         ensures free { self.new.free.now ≡ set self.old.free.now self.old.counts.freed s.0 }
-        ensures counts { self.new.counts ≡ counts_of (self.old.counts.live - 1) self.old.counts.grown (self.old.counts.freed + 1) }
+        ensures counts { self.new.counts ≡ counts_of (self.old.counts.live - 1) self.old.counts.grown (self.old.counts.freed + 1) self.old.counts.pushes }
     {
         self.counts.live -= 1;
         let place = self.reverse[s.0 as usize];

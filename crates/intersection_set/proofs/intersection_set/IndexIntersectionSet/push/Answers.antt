@@ -1,9 +1,12 @@
 -- `push` meets its contract: the calls' contracts come to the steps of `pool_push`.
+use mathlib.Core.Path.{ap, ◌∙◌}
+use native.Mathlib.Omega.{arith}
 use Rattle.index_edge.specs.Number.{edge_of}
 use Rattle.intersection_set.specs.Pool.{pair_of, nexts_in}
 use Rattle.intersection_set.specs.Set.{pool_in}
+use Rattle.intersection_set.specs.declared.utils.Counts.{Counts}
 use Rattle.intersection_set.proofs.Words.{in_words}
-use Rattle.intersection_set.proofs.Lengths.{slot_lt, slot_in, take_ok, append_ok, edges_ok, links_ok, old_ok, old_ok_2, push_steps}
+use Rattle.intersection_set.proofs.Lengths.{inside_of, slot_lt, slot_in, taken_pushes, take_ok, append_ok, edges_ok, links_ok, old_ok, old_ok_2, push_steps}
 use Rattle.intersection_set.proofs.Pushing.{push_holds}
 use Rattle.intersection_set.proofs.intersection_set.IndexIntersectionSet.push.Goals as goal
 
@@ -13,6 +16,18 @@ alloc-s-requires c =
     let n = c.args.self.now.vertices in
     let good = c.requires.good in
     (take_ok n p good, append_ok n (edge_of c.args.isect.min) (edge_of c.args.isect.max) p _ c.requires (slot_lt n p good c.requires.room))
+
+pub bounds-self-s : goal.bounds-self-s
+bounds-self-s c =
+    let a = c.args in
+    let t = c.alloc-s.ensures in
+    rw t.same.1.ages (inside_of (slot_in a.self.now.vertices (edge_of a.isect.min) (edge_of a.isect.max) (pool_in a.self.now) c.requires t.slot) c.requires.good.sizes.in_ages)
+
+pub overflow_add-self : goal.overflow_add-self
+overflow_add-self c =
+    let a = c.args in
+    let t = c.alloc-s.ensures in
+    omega (arith, c.requires.young, ap (λ (k : Counts). k.pushes) t.counts ∙ taken_pushes a.self.now.counts a.self.now.free.now)
 
 pub put_record-requires : goal.put_record-requires
 put_record-requires c =
@@ -59,7 +74,7 @@ returns-clause-pushed c =
     let k = t.same.1 in
     let w = rw (k.ends, k.links) at c.put_record.ensures in
     let h = rw k.heads at c.take_head-next0.ensures.taken in
-    push_steps a.self.now.vertices (edge_of a.isect.min) (edge_of a.isect.max) (pool_in a.self.now) c.requires t.slot t.counts t.order h c.take_head-next1.ensures.taken w c.set_link.ensures c.set_link-2.ensures t.free
+    push_steps a.self.now.vertices (edge_of a.isect.min) (edge_of a.isect.max) (pool_in a.self.now) c.requires t.slot t.counts t.order h c.take_head-next1.ensures.taken w c.set_link.ensures c.set_link-2.ensures t.free k.ages
 
 pub returns-clause-holds : goal.returns-clause-holds
 returns-clause-holds c =
@@ -70,5 +85,5 @@ returns-clause-holds c =
     let h = rw k.heads at c.take_head-next0.ensures.taken in
     let p = pool_in a.self.now in
     let n = a.self.now.vertices in
-    let steps = push_steps n (edge_of a.isect.min) (edge_of a.isect.max) p c.requires t.slot t.counts t.order h c.take_head-next1.ensures.taken w c.set_link.ensures c.set_link-2.ensures t.free in
+    let steps = push_steps n (edge_of a.isect.min) (edge_of a.isect.max) p c.requires t.slot t.counts t.order h c.take_head-next1.ensures.taken w c.set_link.ensures c.set_link-2.ensures t.free k.ages in
     λ e f s ee ef held may. push_holds n p s held e f ee ef may steps

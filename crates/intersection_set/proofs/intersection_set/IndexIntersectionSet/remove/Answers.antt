@@ -32,4 +32,4 @@ returns-clause-removed c =
     let l = rw k.links at c.neighbours_at.ensures in
     let u = rw (k.heads, k.links, k.ends) at c.unlink.ensures in
     let v = rw k.ends at c.unlink-2.ensures in
-    rw k.ends (remove_steps c.args.self.now.vertices s p (read_at p s e l) u v r.order r.free r.counts)
+    rw k.ends (remove_steps c.args.self.now.vertices s p (read_at p s e l) u v r.order r.free r.counts k.ages)
