@@ -29,31 +29,34 @@ pub of_first : {B : Type 0} (f : ℕ → List ℕ → B) (n : ℕ) (l : List ℕ
 of_first f n l h = ap (λ k. f (length (take k l)) (take k l)) (sub-zero n) ∙ ap (λ k. f k (take n l)) (length-take-le n l h)
 
 -- ---- the number of the first check that fails
-abbrev one_to_three : Bool → Bool → Bool → ℕ → ℕ
-one_to_three b1 b2 b3 k = cond b1 1 (cond b2 2 (cond b3 3 k))
+abbrev one_to_three : Bool → Bool → Bool → Bool → ℕ → ℕ
+one_to_three b1 b2 b19 b3 k = cond b1 1 (cond b2 2 (cond b19 19 (cond b3 3 k)))
 
 abbrev five_six : Bool → Bool → ℕ → ℕ
 five_six b5 b6 k = cond b5 5 (cond b6 6 k)
 
-early_few : (b1 b2 b3 : Bool) → one_to_three b1 b2 b3 0 ≡ 0 → (b1 ≡ false) × (b2 ≡ false) × (b3 ≡ false)
-early_few true b2 b3 h = absurd (omega arith)
-early_few false true b3 h = absurd (omega arith)
-early_few false false true h = absurd (omega arith)
-early_few false false false h = (refl, refl, refl)
+early_few : (b1 b2 b19 b3 : Bool) → one_to_three b1 b2 b19 b3 0 ≡ 0 → (b1 ≡ false) × (b2 ≡ false) × (b19 ≡ false) × (b3 ≡ false)
+early_few true b2 b19 b3 h = absurd (omega arith)
+early_few false true b19 b3 h = absurd (omega arith)
+early_few false false true b3 h = absurd (omega arith)
+early_few false false false true h = absurd (omega arith)
+early_few false false false false h = (refl, refl, refl, refl)
 
-at_four : (b1 b2 b3 b4 : Bool) (k : ℕ) → 0 < one_to_three b1 b2 b3 (cond b4 4 0) → one_to_three b1 b2 b3 (cond b4 4 k) ≡ one_to_three b1 b2 b3 (cond b4 4 0)
-at_four true b2 b3 b4 k h = refl
-at_four false true b3 b4 k h = refl
-at_four false false true b4 k h = refl
-at_four false false false true k h = refl
-at_four false false false false k h = absurd (omega arith)
+at_four : (b1 b2 b19 b3 b4 : Bool) (k : ℕ) → 0 < one_to_three b1 b2 b19 b3 (cond b4 4 0) → one_to_three b1 b2 b19 b3 (cond b4 4 k) ≡ one_to_three b1 b2 b19 b3 (cond b4 4 0)
+at_four true b2 b19 b3 b4 k h = refl
+at_four false true b19 b3 b4 k h = refl
+at_four false false true b3 b4 k h = refl
+at_four false false false true b4 k h = refl
+at_four false false false false true k h = refl
+at_four false false false false false k h = absurd (omega arith)
 
-four_few : (b1 b2 b3 b4 : Bool) → one_to_three b1 b2 b3 (cond b4 4 0) ≡ 0 → (one_to_three b1 b2 b3 0 ≡ 0) × (b4 ≡ false)
-four_few true b2 b3 b4 h = absurd (omega arith)
-four_few false true b3 b4 h = absurd (omega arith)
-four_few false false true b4 h = absurd (omega arith)
-four_few false false false true h = absurd (omega arith)
-four_few false false false false h = (refl, refl)
+four_few : (b1 b2 b19 b3 b4 : Bool) → one_to_three b1 b2 b19 b3 (cond b4 4 0) ≡ 0 → (one_to_three b1 b2 b19 b3 0 ≡ 0) × (b4 ≡ false)
+four_few true b2 b19 b3 b4 h = absurd (omega arith)
+four_few false true b19 b3 b4 h = absurd (omega arith)
+four_few false false true b3 b4 h = absurd (omega arith)
+four_few false false false true b4 h = absurd (omega arith)
+four_few false false false false true h = absurd (omega arith)
+four_few false false false false false h = (refl, refl)
 
 at_late : (b5 b6 : Bool) (k : ℕ) → 0 < five_six b5 b6 0 → five_six b5 b6 k ≡ five_six b5 b6 0
 at_late true b6 k h = refl
@@ -65,37 +68,37 @@ after_late true b6 k h = absurd (omega arith)
 after_late false true k h = absurd (omega arith)
 after_late false false k h = refl
 
-module _ (n : ℕ) (pt : ℕ → Point) (s : Bool) (r : List ℕ) where
+module _ (n : ℕ) (pt : ℕ → Point) (s m : Bool) (r : List ℕ) where
   abbrev line : ℕ
   line = cond (all_below n (is_straight_line n pt r)) 7 0
 
   abbrev from_four : ℕ
   from_four = cond (not (each_once n r)) 4 (five_six (not (none_alike n pt)) (ltb n 3) line)
 
-  pub refused_four : 0 < first_four n pt s r → refusal n pt s r ≡ first_four n pt s r
-  refused_four = at_four (ltb 256 n) s (not (in_range n pt)) (not (each_once n r)) (five_six (not (none_alike n pt)) (ltb n 3) line)
+  pub refused_four : 0 < first_four n pt s m r → refusal n pt s m r ≡ first_four n pt s m r
+  refused_four = at_four (ltb 256 n) s m (not (in_range n pt)) (not (each_once n r)) (five_six (not (none_alike n pt)) (ltb n 3) line)
 
-  pub four_passed : first_four n pt s r ≡ 0 → (early n pt s ≡ 0) × (each_once n r ≡ true)
-  four_passed h = let k = four_few (ltb 256 n) s (not (in_range n pt)) (not (each_once n r)) h in (k.0, not_false _ k.1)
+  pub four_passed : first_four n pt s m r ≡ 0 → (early n pt s m ≡ 0) × (each_once n r ≡ true)
+  four_passed h = let k = four_few (ltb 256 n) s m (not (in_range n pt)) (not (each_once n r)) h in (k.0, not_false _ k.1)
 
   -- the three first checks pass
-  module _ (ok : early n pt s ≡ 0) where
-    rest : refusal n pt s r ≡ from_four
-    rest = let (a, b, c) = early_few (ltb 256 n) s (not (in_range n pt)) ok in (λ i. one_to_three (a i) (b i) (c i) from_four)
+  module _ (ok : early n pt s m ≡ 0) where
+    rest : refusal n pt s m r ≡ from_four
+    rest = let (a, b, d, c) = early_few (ltb 256 n) s m (not (in_range n pt)) ok in (λ i. one_to_three (a i) (b i) (d i) (c i) from_four)
 
     module _ (each : each_once n r ≡ true) where
-      passed : refusal n pt s r ≡ five_six (not (none_alike n pt)) (ltb n 3) line
+      passed : refusal n pt s m r ≡ five_six (not (none_alike n pt)) (ltb n 3) line
       passed = rest ∙ ap (λ (t : Bool). cond (not t) 4 (five_six (not (none_alike n pt)) (ltb n 3) line)) each
 
-      pub refused_late : 0 < late n pt → refusal n pt s r ≡ late n pt
+      pub refused_late : 0 < late n pt → refusal n pt s m r ≡ late n pt
       refused_late h = passed ∙ at_late (not (none_alike n pt)) (ltb n 3) line h
 
-      pub refused_line_lem : late n pt ≡ 0 → {b : Bool} → b ≡ all_below n (is_straight_line n pt r) → refusal n pt s r ≡ cond b 7 0
+      pub refused_line_lem : late n pt ≡ 0 → {b : Bool} → b ≡ all_below n (is_straight_line n pt r) → refusal n pt s m r ≡ cond b 7 0
       refused_line_lem h e = passed ∙ after_late (not (none_alike n pt)) (ltb n 3) line h ∙ ap (λ (t : Bool). cond t 7 0) (sym e)
 
 -- with more than 256 points the lengths do not matter
-pub same_refusal : (n : ℕ) (pt : ℕ → Point) (s t : Bool) (r : List ℕ) → (n ≤ 256 → s ≡ t) → refusal n pt s r ≡ refusal n pt t r
-same_refusal n pt s t r h = both (true_or_false (ltb 256 n)) (λ e. rw e refl) (λ e. ap (λ (b : Bool). refusal n pt b r) (h (ltb-false 256 n e)))
+pub same_refusal : (n : ℕ) (pt : ℕ → Point) (s t m : Bool) (r : List ℕ) → (n ≤ 256 → s ≡ t) → refusal n pt s m r ≡ refusal n pt t m r
+same_refusal n pt s t m r h = both (true_or_false (ltb 256 n)) (λ e. rw e refl) (λ e. ap (λ (b : Bool). refusal n pt b m r) (h (ltb-false 256 n e)))
 
 pub lent_of : {n : ℕ} {x y : List ℤ} → n ≤ 256 → n ≤ length x → n ≤ length y → in_range n (points x y) ≡ true → Lent n x y
 lent_of {n} {x} {y} few lx ly z = record {

@@ -15,13 +15,13 @@ any_below size (l ∷ ls) = ltb l size || any_below size ls
 abbrev pub short : ℕ → List ℕ → List ℕ → Bool
 short n of_points of_records = any_below n of_points || any_below (n * (n - 1)) of_records
 
--- checks 1, 2 and 3: the first that fails, or 0
-abbrev pub early : ℕ → (ℕ → Point) → Bool → ℕ
-early n pt s = cond (ltb 256 n) 1 (cond s 2 (cond (not (in_range n pt)) 3 0))
+-- checks 1, 2, 19 and 3: the first that fails, or 0; s: a buffer is too short, m: there are too many picks
+abbrev pub early : ℕ → (ℕ → Point) → Bool → Bool → ℕ
+early n pt s m = cond (ltb 256 n) 1 (cond s 2 (cond m 19 (cond (not (in_range n pt)) 3 0)))
 
--- checks 1 to 4 of the ring r
-abbrev pub first_four : ℕ → (ℕ → Point) → Bool → List ℕ → ℕ
-first_four n pt s r = cond (ltb 256 n) 1 (cond s 2 (cond (not (in_range n pt)) 3 (cond (not (each_once n r)) 4 0)))
+-- these and check 4 of the ring r
+abbrev pub first_four : ℕ → (ℕ → Point) → Bool → Bool → List ℕ → ℕ
+first_four n pt s m r = cond (ltb 256 n) 1 (cond s 2 (cond m 19 (cond (not (in_range n pt)) 3 (cond (not (each_once n r)) 4 0))))
 
 -- checks 5 and 6
 abbrev pub late : ℕ → (ℕ → Point) → ℕ

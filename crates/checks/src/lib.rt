@@ -1,4 +1,4 @@
-// The checks of a call, in number order, and what they ask of points and ring. None of them writes.
+// The checks of a call, in order, and what they ask of points and ring. None of them writes.
 #![tactic(auto)]
 
 pub mod accept;

@@ -93,7 +93,7 @@ all_three (a ∷ A) B = omega (arith, all_three A B, row a B)
     row a [] = refl
     row a (b ∷ B) = omega (arith, row a B, three a b)
 
-member_some : (a : Edge) (l : List Edge) → edge_in a l ≡ true → 1 ≤ count_p (eq_edge a) l
+pub member_some : (a : Edge) (l : List Edge) → edge_in a l ≡ true → 1 ≤ count_p (eq_edge a) l
 member_some a [] h = absurd (false≢true h)
 member_some a (f ∷ l) h = go (eq_edge a f) h (member_some a l)
   where

@@ -17,6 +17,7 @@ pub mod Moves
 pub mod Bounds
 pub mod Turns
 pub mod Room
+pub mod Pushes
 pub mod Middle
 pub mod Moments
 pub mod Demand3Holds

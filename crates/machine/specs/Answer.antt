@@ -1,4 +1,4 @@
--- What a call answers: the checks in number order, the run, the loop reversed if need be.
+-- What a call answers: the checks in order, the run, the loop reversed if need be.
 use Rattle.std.specs.Prelude.{Bool, not, cond, List, ℕ, zero, suc, ◌-◌, pos, eqb, ltb, length}
 use Rattle.std.specs.Int.Signed.{lt_z}
 use Rattle.algebra.specs.Ranges.{all_below}
@@ -8,12 +8,16 @@ use Rattle.machine.specs.Board.{pt_at, turn_at, is_straight_line}
 use Rattle.machine.specs.Machine.{Traced, start, after, place}
 
 pub data Answer : Type 0 where
-  -- a refusal's number, 1 to 7
+  -- a refusal's number, 1 to 7 or 19
   refused : ℕ → Answer
   -- refusal 8: the ring, the moves made, the records left
   unfinished : List ℕ → ℕ → ℕ → Answer
   -- the loop, the moves made, the records at the start
   delivered : List ℕ → ℕ → ℕ → Answer
+
+-- more than 1,000,000 picks; a run of as many keeps every age below 2³²
+abbrev pub too_many : List ℕ → Bool
+too_many cs = ltb 1000000 (length cs)
 
 -- point i equals none before it
 abbrev pub new_point : (ℕ → Point) → ℕ → Bool
@@ -52,17 +56,19 @@ module _ (n : ℕ) (pt : ℕ → Point) where
   abbrev pub none_alike : Bool
   none_alike = all_below n (new_point pt)
 
-  -- The number of the first check that fails, in number order; 0 if none does. `short`: a lent buffer is too short (check 2).
-  abbrev pub refusal : Bool → List ℕ → ℕ
-  refusal short r =
+  -- The number of the first check that fails, in the order 1, 2, 19, 3 to 7; 0 if none does. `short`: a lent buffer is too short (check 2); `many`: there are
+  -- too many picks (check 19).
+  abbrev pub refusal : Bool → Bool → List ℕ → ℕ
+  refusal short many r =
       cond (ltb 256 n) 1
       (cond short 2
+      (cond many 19
       (cond (not in_range) 3
       (cond (not (each_once n r)) 4
       (cond (not none_alike) 5
       (cond (ltb n 3) 6
-      (cond (all_below n (is_straight_line n pt r)) 7 0))))))
+      (cond (all_below n (is_straight_line n pt r)) 7 0)))))))
 
   -- A call with the starting ring r and the picks cs.
   abbrev pub call : Bool → List ℕ → List ℕ → Answer
-  call short r cs = let a = answer r (after n pt place cs r) in cond (eqb (refusal short r) 0) a (refused (refusal short r))
+  call short r cs = let a = answer r (after n pt place cs r) in cond (eqb (refusal short (too_many cs) r) 0) a (refused (refusal short (too_many cs) r))

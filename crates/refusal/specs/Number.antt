@@ -1,7 +1,7 @@
 -- The numbers of the refusals.
 use Rattle.std.specs.Prelude.{ℕ, Result, Ok, Err}
 use Rattle.refusal.specs.declared.Refusal.{Refusal}
-use Rattle.refusal.specs.declared.Refusal.TheVariants.{ManyPoints, ShortBuffer, OutOfRange, NoRing, EqualPoints, FewPoints, OneLine, PicksUsedUp, JobLength, TotalLength, ManyJobPoints, AreaOutside, SharedBytes}
+use Rattle.refusal.specs.declared.Refusal.TheVariants.{ManyPoints, ShortBuffer, OutOfRange, NoRing, EqualPoints, FewPoints, OneLine, PicksUsedUp, JobLength, TotalLength, ManyJobPoints, AreaOutside, SharedBytes, ManyPicks}
 
 abbrev pub number_of : Refusal → ℕ
 number_of ManyPoints = 1
@@ -17,6 +17,7 @@ number_of TotalLength = 10
 number_of ManyJobPoints = 11
 number_of AreaOutside = 12
 number_of SharedBytes = 13
+number_of ManyPicks = 19
 
 -- the number with which a check refuses, or 0 where it passes
 abbrev pub refused : {A : Type 0} → Result A Refusal → ℕ

@@ -35,6 +35,8 @@ pub enum Refusal {
     AreaOutside,
     // The areas of the job share bytes.
     SharedBytes,
+    // More than 1,000,000 picks.
+    ManyPicks,
 }
 
 impl Refusal {
@@ -56,6 +58,7 @@ impl Refusal {
             Refusal::ManyJobPoints => 11,
             Refusal::AreaOutside => 12,
             Refusal::SharedBytes => 13,
+            Refusal::ManyPicks => 19,
         }
     }
 }
@@ -76,6 +79,7 @@ impl fmt::Display for Refusal {
             Refusal::ManyJobPoints => "the job has more than 48 points",
             Refusal::AreaOutside => "an area of the job is not within it",
             Refusal::SharedBytes => "the areas of the job share bytes",
+            Refusal::ManyPicks => "more than 1000000 picks",
         })
     }
 }

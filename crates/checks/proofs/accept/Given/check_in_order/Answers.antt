@@ -14,18 +14,18 @@ returns-in_err-late-clause-number c =
     let s = c.args.self in
     let told : refused c.from_residual-in_err-late.result ≡ number_of c.in_err-late.field-0.0 = search rules in
     let late_is = c.in_err-late.ensures ∙ same_late c.in_ok-points.points c.in_ok-points.ensures.passed in
-    told ∙ late_is ∙ sym (refused_late s.n (points s.x.now s.y.now) s.short (up_from 0 s.n) (sym (c.in_ok-points.ensures.number)) (in_order_once s.n) (subst (λ k. 0 < k) late_is (some_number c.in_err-late.field-0.0)))
+    told ∙ late_is ∙ sym (refused_late s.n (points s.x.now s.y.now) s.short s.many (up_from 0 s.n) (sym (c.in_ok-points.ensures.number)) (in_order_once s.n) (subst (λ k. 0 < k) late_is (some_number c.in_err-late.field-0.0)))
 
 pub returns-then-colinear_in_order-clause-number : goal.returns-then-colinear_in_order-clause-number
 returns-then-colinear_in_order-clause-number c =
     let s = c.args.self in
     let o = c.in_ok-points.ensures.passed in
-    sym (refused_line_lem s.n (points s.x.now s.y.now) s.short (up_from 0 s.n) (sym (c.in_ok-points.ensures.number)) (in_order_once s.n) (sym (c.in_ok-late.ensures ∙ same_late c.in_ok-points.points o))
+    sym (refused_line_lem s.n (points s.x.now s.y.now) s.short s.many (up_from 0 s.n) (sym (c.in_ok-points.ensures.number)) (in_order_once s.n) (sym (c.in_ok-late.ensures ∙ same_late c.in_ok-points.points o))
     (sym c.if-colinear_in_order.true ∙ c.colinear_in_order.ensures ∙ same_line c.in_ok-points.points o (up_from 0)))
 
 pub returns-clause-number : goal.returns-clause-number
 returns-clause-number c =
     let s = c.args.self in
     let o = c.in_ok-points.ensures.passed in
-    sym (refused_line_lem s.n (points s.x.now s.y.now) s.short (up_from 0 s.n) (sym (c.in_ok-points.ensures.number)) (in_order_once s.n) (sym (c.in_ok-late.ensures ∙ same_late c.in_ok-points.points o))
+    sym (refused_line_lem s.n (points s.x.now s.y.now) s.short s.many (up_from 0 s.n) (sym (c.in_ok-points.ensures.number)) (in_order_once s.n) (sym (c.in_ok-late.ensures ∙ same_late c.in_ok-points.points o))
     (sym c.if-colinear_in_order.false ∙ c.colinear_in_order.ensures ∙ same_line c.in_ok-points.points o (up_from 0)))
