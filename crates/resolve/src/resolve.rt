@@ -7,7 +7,7 @@ ghost use Rattle.polygon.specs.Lent.{SameLoans};
 ghost use Rattle.intersection_set.specs.Set.{buffers_in, pool_in, SameBuffers};
 ghost use Rattle.intersection_set.specs.Within.{Room};
 ghost use Rattle.machine.specs.Machine.{State, begin as starting};
-ghost use Rattle.machine.specs.Answer.{finish as finished, refusal};
+ghost use Rattle.machine.specs.Answer.{finish as finished, refusal, too_many};
 ghost use Rattle.untangle.specs.Running.{Running};
 ghost use Rattle.resolve.specs.Ended.{Ended, Counted};
 
@@ -44,7 +44,7 @@ pub fn go_on(
     picks: &[u32],
 ) -> Resolved
     requires { let n = set.old.vertices in
-        (points.n ≡ n) × ((s : State) × Running n (spots points) s [] polygon.old.ring.now polygon.old.index.now (pool_in set.old)) }
+        (points.n ≡ n) × (length picks.now ≤ 1000000) × ((s : State) × Running n (spots points) s [] polygon.old.ring.now polygon.old.index.now (pool_in set.old)) }
     ensures same { SameBuffers set.old set.new }
     ensures loans { SameLoans polygon.old polygon.new }
     ensures ended { let n = set.old.vertices in
@@ -67,7 +67,7 @@ pub fn resolve(
     picks: &[u32],
 ) -> Resolved
     requires { let n = set.old.vertices in
-        (points.n ≡ n) × (refusal n (spots points) false polygon.old.ring.now ≡ 0) × Room n (buffers_in set.old) }
+        (points.n ≡ n) × (refusal n (spots points) false (too_many picks.now) polygon.old.ring.now ≡ 0) × Room n (buffers_in set.old) }
     ensures same { SameBuffers set.old set.new }
     ensures loans { SameLoans polygon.old polygon.new }
     ensures ended { let n = set.old.vertices in

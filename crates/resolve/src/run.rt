@@ -1,5 +1,5 @@
 // The start of a run and the loop over the picks (two_opt.rs, `resolve_self_intersections`).
-ghost use Rattle.std.specs.Prelude.{◌≡◌, false, [], length};
+ghost use Rattle.std.specs.Prelude.{◌≡◌, false, [], ◌≤◌, length};
 ghost use Rattle.geometry.specs.Spots.{spots};
 ghost use Rattle.polygon.specs.Lent.{SameLoans};
 ghost use Rattle.intersection_set.specs.Set.{buffers_in, pool_in, SameBuffers};
@@ -19,7 +19,7 @@ use untangle::untangle::untangle;
 // The start: no records, then every pair of ring edges that meet.
 pub fn begin(set: &mut IndexIntersectionSet<'_>, points: Points<'_>, ring: &[u16])
     requires { let n = set.old.vertices in
-        (points.n ≡ n) × (refusal n (spots points) false ring.now ≡ 0) × Room n (buffers_in set.old) }
+        (points.n ≡ n) × (refusal n (spots points) false false ring.now ≡ 0) × Room n (buffers_in set.old) }
     ensures same { SameBuffers set.old set.new }
     ensures free { set.new.free.now ≡ set.old.free.now }
     ensures holds { let n = set.old.vertices in
@@ -37,7 +37,7 @@ pub fn run(
     picks: &[u32],
 ) -> usize
     requires { let n = set.old.vertices in
-        (points.n ≡ n) × ((s : State) × Running n (spots points) s [] polygon.old.ring.now polygon.old.index.now (pool_in set.old)) }
+        (points.n ≡ n) × (length picks.now ≤ 1000000) × ((s : State) × Running n (spots points) s [] polygon.old.ring.now polygon.old.index.now (pool_in set.old)) }
     ensures same { SameBuffers set.old set.new }
     ensures loans { SameLoans polygon.old polygon.new }
     ensures ran { let n = set.old.vertices in

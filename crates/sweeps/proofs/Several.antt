@@ -1,7 +1,7 @@
 -- Sweeps and removals for several edges, one after the other.
 use mathlib.Core.Path.{◌≡◌, refl, sym, ap, subst, ◌∙◌}
 use mathlib.Core.List.{List, [], ◌∷◌, ◌++◌, map}
-use Prim.Native.Nat.{ℕ, suc, ◌+◌, ◌≤◌, ◌<◌}
+use Prim.Native.Nat.{ℕ, suc, ◌+◌, ◌<◌}
 use native.Mathlib.Omega.{arith}
 use native.Mathlib.Numerals.{add-one}
 use lib.ListN.{length, get_or, take, drop, take-append-drop, length-map, get_or-map}
@@ -61,17 +61,15 @@ module _ (pt : ℕ → Point) where
 
     -- the end of all bounds this one's end
     pub fits_now : FitAll n pt r b l s → Fits n pt r b e (sweeps_over pt b (edges n r) (take i l) s)
-    fits_now f = record {
-      few =
-          omega (
-            arith,
-            f.few,
-            ap (λ (u : Store). length u.dense) next_sweep,
-            subst (λ (u : Store). length (sweeps_over pt b (edges n r) (take (i + 1) l) s).dense ≤ length u.dense)
-                (sym (sweeps_append b (edges n r) (take (i + 1) l) (drop (i + 1) l) s) ∙ ap (λ (m : List Edge). sweeps_over pt b (edges n r) m s) (take-append-drop (i + 1) l))
-                (sweeps_grows b (edges n r) (drop (i + 1) l) (sweeps_over pt b (edges n r) (take (i + 1) l) s)).more,
-          );
-    }
+    fits_now f =
+        let upto : Store = sweeps_over pt b (edges n r) (take (i + 1) l) s in
+        let part : Grows upto (sweeps_over pt b (edges n r) l s)
+        = subst (Grows upto) (sym (sweeps_append b (edges n r) (take (i + 1) l) (drop (i + 1) l) s) ∙ ap (λ (m : List Edge). sweeps_over pt b (edges n r) m s) (take-append-drop (i + 1) l))
+        (sweeps_grows b (edges n r) (drop (i + 1) l) upto) in
+        record {
+          few = omega (arith, f.few, ap (λ (u : Store). length u.dense) next_sweep, part.more);
+          young = omega (arith, f.young, ap (λ (u : Store). u.pushes) next_sweep, part.pushed);
+        }
 
 -- ---- removals
 removes_append : (xs ys : List Edge) (s : Store) → removes (xs ++ ys) s ≡ removes ys (removes xs s)

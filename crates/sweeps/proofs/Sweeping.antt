@@ -3,7 +3,7 @@ use mathlib.Core.Path.{◌≡◌, refl, sym, ap, subst, subst⁻¹, ◌∙◌}
 use mathlib.Core.Bool.{Bool, true, false, not, cond}
 use mathlib.Core.List.{List, ◌++◌}
 use mathlib.Core.Logic.{◌≢◌}
-use Prim.Native.Nat.{ℕ, suc, ◌+◌, ◌-◌, ◌*◌, ◌≤◌, ◌<◌}
+use Prim.Native.Nat.{ℕ, suc, ◌+◌, ◌≤◌, ◌<◌}
 use native.Mathlib.Omega.{arith}
 use lib.Dec.{ltb}
 use lib.ListN.{length, get_or, take, drop, take-append-drop}
@@ -29,7 +29,7 @@ use Rattle.machine.specs.Board.{Board, Distinct, meet_edges}
 use Rattle.machine.proofs.Bounds.{edges_length, scan_over_append, pairs_with_append}
 use Rattle.machine.proofs.Kept.{scan_over_grows, pairs_with_grows}
 use Rattle.machine.proofs.Turns.{scan_turn, start_inner, edges_at}
-use Rattle.sweeps.specs.Sweep.{first_of, second_of, wanted, sweep_over, Fits}
+use Rattle.sweeps.specs.Sweep.{first_of, second_of, wanted, sweep_over, Small, Fits}
 use Rattle.sweeps.specs.Sight.{turn_to, Sees, Sight}
 use Rattle.sweeps.specs.declared.pair.Against.{Against}
 use Rattle.sweeps.specs.declared.pair.Against.TheVariants.{Others, Greater}
@@ -96,32 +96,31 @@ module _ (pt : ℕ → Point) where
   sweep_grows Greater e l s = pairs_with_grows pt e l s
 
   -- a sweep only adds: its end bounds each of its moments
-  pub sweep_part : (b : Against) (e : Edge) (l : List Edge) (i : ℕ) (s : Store) → length (sweep_over pt b e (take i l) s).dense ≤ length (sweep_over pt b e l s).dense
+  pub sweep_part : (b : Against) (e : Edge) (l : List Edge) (i : ℕ) (s : Store) → Grows (sweep_over pt b e (take i l) s) (sweep_over pt b e l s)
   sweep_part b e l i s =
-      subst (λ (u : Store). length (sweep_over pt b e (take i l) s).dense ≤ length u.dense)
+      subst (Grows (sweep_over pt b e (take i l) s))
       (sym (sweep_append b e (take i l) (drop i l) s) ∙ ap (λ (m : List Edge). sweep_over pt b e m s) (take-append-drop i l))
-      (sweep_grows b e (drop i l) (sweep_over pt b e (take i l) s)).more
+      (sweep_grows b e (drop i l) (sweep_over pt b e (take i l) s))
 
   wanted_differ : (b : Against) (e f : Edge) → wanted pt b e f ≡ true → eq_edge (first_of b e f) (second_of b e f) ≡ false
   wanted_differ Others e f h = not_true (eq_edge f e) (and_left (not (eq_edge f e)) (meet_edges pt f e) h)
   wanted_differ Greater e f h = lt_edge_diff e f (and_left (lt_edge e f) (meet_edges pt e f) h)
 
   -- a push of this turn is allowed
-  pub may_sweep : (n : ℕ) (b : Against) (e : Edge) (l : List Edge) (i : ℕ) (d : Edge) (s : Store) → i < length l → Proper n e → Proper n (get_or l i d) → length (sweep_over pt b e l s).dense ≤ n * (n - 1)
+  pub may_sweep : (n : ℕ) (b : Against) (e : Edge) (l : List Edge) (i : ℕ) (d : Edge) (s : Store) → i < length l → Proper n e → Proper n (get_or l i d) → Small n (sweep_over pt b e l s)
       → wanted pt b e (get_or l i d) ≡ true → MayPush n (first_of b e (get_or l i d)) (second_of b e (get_or l i d)) (sweep_over pt b e (take i l) s)
-  may_sweep n b e l i d s il pe pf few t =
+  may_sweep n b e l i d s il pe pf small t =
+      let u : Store = sweep_over pt b e (take i l) s in
+      let x : Edge = first_of b e (get_or l i d) in
+      let y : Edge = second_of b e (get_or l i d) in
+      let pushed : sweep_over pt b e (take (suc i) l) s ≡ push x y u = sweep_turn b e l i d s il ∙ ap (λ (k : Bool). cond k (push x y u) u) t in
+      let part : Grows (push x y u) (sweep_over pt b e l s) = subst (λ (v : Store). Grows v (sweep_over pt b e l s)) pushed (sweep_part b e l (suc i) s) in
       record {
         first = side b (get_or l i d) pe pf;
         second = other b (get_or l i d) pe pf;
         differ = wanted_differ b e (get_or l i d) t;
-        room =
-            omega (
-              arith,
-              few,
-              sweep_part b e l (suc i) s,
-              ap (λ (u : Store). length u.dense) (sweep_turn b e l i d s il ∙ ap (λ (k : Bool). cond k (push (first_of b e (get_or l i d)) (second_of b e (get_or l i d)) (sweep_over pt b e (take i l) s)) (sweep_over pt b e (take i l) s)) t),
-              length_snoc (sweep_over pt b e (take i l) s).dense (rec_for (first_of b e (get_or l i d)) (second_of b e (get_or l i d)) (sweep_over pt b e (take i l) s).pushes (slot_for (sweep_over pt b e (take i l) s).free (length (sweep_over pt b e (take i l) s).dense))),
-            );
+        room = omega (arith, small.few, part.more, length_snoc u.dense (rec_for x y u.pushes (slot_for u.free (length u.dense))));
+        young = omega (arith, small.young, part.pushed);
       }
     where
       side : (b : Against) (f : Edge) → Proper n e → Proper n f → Proper n (first_of b e f)
@@ -164,7 +163,7 @@ module _ (n : ℕ) (pt : ℕ → Point) (r : List ℕ) (b : Against) (e : Edge) 
 
     pub may_now : IsRing n r → 2 ≤ n → Proper n e → Fits n pt r b e s → MayPush n (first_of b e f) (second_of b e f) so_far
     may_now ring two pe fits =
-        let m = may_sweep pt n b e (edges n r) i nowhere s in_list pe (subst⁻¹ (Proper n) (edges_at n r i nowhere l) (proper_at ring two i l)) fits.few (ap (wanted pt b e) there ∙ w) in
+        let m = may_sweep pt n b e (edges n r) i nowhere s in_list pe (subst⁻¹ (Proper n) (edges_at n r i nowhere l) (proper_at ring two i l)) fits (ap (wanted pt b e) there ∙ w) in
         subst (λ (h : Edge). MayPush n (first_of b e h) (second_of b e h) so_far) there m
 
 pub sweep_all : (n : ℕ) (pt : ℕ → Point) (b : Against) (e : Edge) (r : List ℕ) (i : ℕ) (s : Store) → i ≡ n → sweep_over pt b e (take i (edges n r)) s ≡ sweep_over pt b e (edges n r) s

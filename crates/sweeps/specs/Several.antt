@@ -1,11 +1,12 @@
 -- Several edges, and the sweeps of a move or of the start for them.
-use Rattle.std.specs.Prelude.{List, ℕ, ◌-◌, ◌*◌, ◌≤◌, ◌<◌, length, get_or}
+use Rattle.std.specs.Prelude.{List, ℕ, ◌<◌, length, get_or}
 use Rattle.geometry.specs.Plane.{Point}
 use Rattle.index_edge.specs.Edge.{Edge}
 use Rattle.polygon.specs.Edges.{edges}
 use Rattle.intersection_set.specs.Store.{Store}
 use Rattle.intersection_set.specs.Within.{Proper}
 use Rattle.machine.specs.Machine.{scans, pairs}
+use Rattle.sweeps.specs.Sweep.{Small}
 use Rattle.sweeps.specs.declared.pair.Against.{Against}
 use Rattle.sweeps.specs.declared.pair.Against.TheVariants.{Others, Greater}
 
@@ -22,6 +23,6 @@ sweeps_over pt Greater all l s = pairs pt all l s
 abbrev pub AllProper : ℕ → List Edge → Type 0
 AllProper n l = (i : ℕ) → i < length l → Proper n (get_or l i nowhere)
 
--- they leave room: no more than n×(n-1) records
-pub record FitAll (n : ℕ) (pt : ℕ → Point) (r : List ℕ) (b : Against) (l : List Edge) (s : Store) : Type 0 where
-  pub few : length (sweeps_over pt b (edges n r) l s).dense ≤ n * (n - 1)
+-- they leave no more records and pushes than there is room for
+abbrev pub FitAll : (n : ℕ) (pt : ℕ → Point) (r : List ℕ) → Against → List Edge → Store → Type 0
+FitAll n pt r b l s = Small n (sweeps_over pt b (edges n r) l s)

@@ -1,5 +1,5 @@
 -- One edge against every edge of the ring: every other one, as in a move, or every greater one, as at the start.
-use Rattle.std.specs.Prelude.{Bool, not, ◌&&◌, List, ℕ, ◌-◌, ◌*◌, ◌≤◌, length}
+use Rattle.std.specs.Prelude.{Bool, not, ◌&&◌, List, ℕ, ◌-◌, ◌*◌, ◌≤◌, ◌<◌, length}
 use Rattle.geometry.specs.Plane.{Point}
 use Rattle.index_edge.specs.Edge.{Edge, eq_edge, lt_edge}
 use Rattle.polygon.specs.Edges.{edges}
@@ -32,6 +32,11 @@ abbrev pub sweep_over : (ℕ → Point) → Against → Edge → List Edge → S
 sweep_over pt Others e l s = scan_over pt e l s
 sweep_over pt Greater e l s = pairs_with pt e l s
 
--- it leaves room: no more than n×(n-1) records
-pub record Fits (n : ℕ) (pt : ℕ → Point) (r : List ℕ) (b : Against) (e : Edge) (s : Store) : Type 0 where
-  pub few : length (sweep_over pt b e (edges n r) s).dense ≤ n * (n - 1)
+-- a store of no more than n×(n-1) records, with ages of 32 bits
+pub record Small (n : ℕ) (s : Store) : Type 0 where
+  pub few : length s.dense ≤ n * (n - 1)
+  pub young : s.pushes < 4294967296
+
+-- it leaves one
+abbrev pub Fits : (n : ℕ) (pt : ℕ → Point) (r : List ℕ) → Against → Edge → Store → Type 0
+Fits n pt r b e s = Small n (sweep_over pt b e (edges n r) s)

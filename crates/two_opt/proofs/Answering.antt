@@ -1,27 +1,27 @@
 -- The answer of an entry and what it leaves: of a call that a check refuses, and of one that runs.
 use mathlib.Core.Path.{◌≡◌, refl, sym, ap, ◌∙◌, subst, subst⁻¹}
-use mathlib.Core.Bool.{Bool, true, false, not, cond}
+use mathlib.Core.Bool.{Bool, true, false, cond}
 use mathlib.Core.List.{List, ◌++◌}
 use Prim.Native.Nat.{ℕ, ◌-◌, ◌*◌, ◌≤◌, ◌<◌}
 use native.Mathlib.Omega.{arith}
-use lib.Dec.{eqb, ltb}
+use lib.Dec.{eqb}
 use lib.IntN.{ℤ}
 use lib.ListN.{length, get_or, take, drop, length-append}
 use lib.Seq.{length-take-le}
 use borrow.Author.Tests.{ne_eqb}
 use lib.Seq.{take_at, drop_at}
-use Rattle.algebra.specs.Cases.{or_parts}
+use Rattle.algebra.specs.Cases.{both, or_parts}
 use Rattle.geometry.specs.Plane.{Point}
 use Rattle.geometry.specs.Lent.{points}
 use Rattle.intersection_set.specs.Pool.{lent}
 use Rattle.intersection_set.specs.Within.{Room}
 use Rattle.machine.specs.Machine.{begin, after, place}
-use Rattle.machine.specs.Answer.{refused, unfinished, delivered, finish, answer, in_range, none_alike, refusal}
-use Rattle.machine.proofs.Accepted.{Accepted, accepted}
+use Rattle.machine.specs.Answer.{refused, unfinished, delivered, finish, answer, refusal, too_many}
+use Rattle.machine.proofs.Accepted.{Accepted, accepted, numbers}
 use Rattle.untangle.specs.Running.{state_after}
 use Rattle.resolve.specs.Ended.{Counted, last_ring, Ended}
 use Rattle.checks.specs.Checks.{any_below, Of}
-use Rattle.two_opt.specs.Entry.{refusal_of, answer_of, Loan, loan, each, front, past, ring_sized, record_sized, short_of, Entry}
+use Rattle.two_opt.specs.Entry.{refusal_of, answer_of, Loan, loan, each, front, past, ring_sized, record_sized, short_of, first_refusal, Entry}
 use Rattle.two_opt.specs.Lent.{Enough, Starting, RanIn}
 use Rattle.two_opt.specs.declared.entries.Delivered.{Delivered}
 use Rattle.resolve.specs.declared.resolve.Resolved.{Resolved}
@@ -29,21 +29,19 @@ use Rattle.refusal.proofs.Numbers.{some_number}
 use Rattle.checks.proofs.Checking.{long, same_refusal}
 use Rattle.std.specs.Prelude.{Result}
 use Rattle.std.proofs.Common.{Bor}
-use Rattle.algebra.specs.Ranges.{all_below}
 use Rattle.geometry.specs.Spots.{spots}
 use Rattle.geometry.specs.declared.lent.Points.{Points}
-use Rattle.polygon.specs.Ring.{each_once, index_of}
-use Rattle.machine.specs.Board.{is_straight_line}
+use Rattle.polygon.specs.Ring.{index_of}
 use Rattle.refusal.specs.Number.{number_of}
 use Rattle.refusal.specs.declared.Refusal.{Refusal}
 use Rattle.refusal.specs.declared.Refusal.TheVariants.{PicksUsedUp}
 
 -- ---- a call that is refused
-pub refused_entry : (n : ℕ) (x y : List ℤ) (r cs : List ℕ) (l : Loan) {k : ℕ} → k ≡ refusal n (points x y) (short_of n x y l) r → 0 < k → Entry n x y r cs l l (refused k)
+pub refused_entry : (n : ℕ) (x y : List ℤ) (r cs : List ℕ) (l : Loan) {k : ℕ} → k ≡ first_refusal n x y r cs l → 0 < k → Entry n x y r cs l l (refused k)
 refused_entry n x y r cs l is some =
-    let no : refusal n (points x y) (short_of n x y l) r ≡ 0 → ⊥ = λ e. (let z = is ∙ e in omega (arith, z, some)) in
+    let no : first_refusal n x y r cs l ≡ 0 → ⊥ = λ e. (let z = is ∙ e in omega (arith, z, some)) in
     record {
-      answers = ap refused is ∙ rw (ne_eqb (refusal n (points x y) (short_of n x y l) r) 0 no) refl;
+      answers = ap refused is ∙ rw (ne_eqb (first_refusal n x y r cs l) 0 no) refl;
       untouched = λ _. refl;
       ended = λ e. absurd (no e);
       beyond = refl;
@@ -57,15 +55,16 @@ enough n x y l h = record {
   in_heads = records_long 0 (omega arith);
   in_ends = records_long 1 (omega arith);
   in_links = records_long 2 (omega arith);
-  in_dense = records_long 3 (omega arith);
-  in_reverse = records_long 4 (omega arith);
-  in_free = records_long 5 (omega arith);
+  in_ages = records_long 3 (omega arith);
+  in_dense = records_long 4 (omega arith);
+  in_reverse = records_long 5 (omega arith);
+  in_free = records_long 6 (omega arith);
 }
   where
     ring_long : (i : ℕ) → i < 4 → n ≤ get_or (ring_sized x y l) i 0
     ring_long = long n (ring_sized x y l) (or_parts (any_below n (ring_sized x y l)) (any_below (n * (n - 1)) (record_sized l.records)) h).0
 
-    records_long : (i : ℕ) → i < 6 → n * (n - 1) ≤ get_or (record_sized l.records) i 0
+    records_long : (i : ℕ) → i < 7 → n * (n - 1) ≤ get_or (record_sized l.records) i 0
     records_long = long (n * (n - 1)) (record_sized l.records) (or_parts (any_below n (ring_sized x y l)) (any_below (n * (n - 1)) (record_sized l.records)) h).1
 
 -- ---- a part from the start on, lent and written
@@ -82,6 +81,7 @@ exact_room n m l e h = record {
   in_heads = part_length m l.records.heads e h.in_heads;
   in_ends = part_length m l.records.ends e h.in_ends;
   in_links = part_length m l.records.links e h.in_links;
+  in_ages = part_length m l.records.ages e h.in_ages;
   in_dense = part_length m l.records.dense e h.in_dense;
   in_reverse = part_length m l.records.reverse e h.in_reverse;
   in_free = part_length m l.records.free e h.in_free;
@@ -97,6 +97,7 @@ written n m was parts =
     (c.heads ++ drop m b.heads)
     (c.ends ++ drop m b.ends)
     (c.links ++ drop m b.links)
+    (c.ages ++ drop m b.ages)
     (c.dense ++ drop m b.dense)
     (c.reverse ++ drop m b.reverse)
     (c.free ++ drop m b.free))
@@ -108,14 +109,14 @@ module _ (n m : ℕ) (was parts : Loan) (em : m ≡ n * (n - 1)) (lr : length pa
       let b = was.records in
       let c = parts.records in
       λ i. loan (take_at parts.ring (drop n was.ring) n lr i) (take_at parts.index (drop n was.index) n li i)
-      (lent (take_at c.heads (drop m b.heads) k lb.in_heads i) (take_at c.ends (drop m b.ends) k lb.in_ends i) (take_at c.links (drop m b.links) k lb.in_links i) (take_at c.dense (drop m b.dense) k lb.in_dense i) (take_at c.reverse (drop m b.reverse) k lb.in_reverse i) (take_at c.free (drop m b.free) k lb.in_free i))
+      (lent (take_at c.heads (drop m b.heads) k lb.in_heads i) (take_at c.ends (drop m b.ends) k lb.in_ends i) (take_at c.links (drop m b.links) k lb.in_links i) (take_at c.ages (drop m b.ages) k lb.in_ages i) (take_at c.dense (drop m b.dense) k lb.in_dense i) (take_at c.reverse (drop m b.reverse) k lb.in_reverse i) (take_at c.free (drop m b.free) k lb.in_free i))
 
   past_written : past n (written n m was parts) ≡ past n was
   past_written =
       let b = was.records in
       let c = parts.records in
       λ i. loan (past_part n parts.ring was.ring refl lr i) (past_part n parts.index was.index refl li i)
-      (lent (past_part m c.heads b.heads em lb.in_heads i) (past_part m c.ends b.ends em lb.in_ends i) (past_part m c.links b.links em lb.in_links i) (past_part m c.dense b.dense em lb.in_dense i) (past_part m c.reverse b.reverse em lb.in_reverse i) (past_part m c.free b.free em lb.in_free i))
+      (lent (past_part m c.heads b.heads em lb.in_heads i) (past_part m c.ends b.ends em lb.in_ends i) (past_part m c.links b.links em lb.in_links i) (past_part m c.ages b.ages em lb.in_ages i) (past_part m c.dense b.dense em lb.in_dense i) (past_part m c.reverse b.reverse em lb.in_reverse i) (past_part m c.free b.free em lb.in_free i))
 
   -- a run over the parts is one over what is lent
   pub ran_parts : (pt : ℕ → Point) (cs : List ℕ) {r : Resolved}
@@ -141,6 +142,7 @@ starting n l r {ring} {index} e lr is li inverse =
         in_heads = e.in_heads;
         in_ends = e.in_ends;
         in_links = e.in_links;
+        in_ages = e.in_ages;
         in_dense = e.in_dense;
         in_reverse = e.in_reverse;
         in_free = e.in_free;
@@ -152,23 +154,22 @@ starting n l r {ring} {index} e lr is li inverse =
     longer part rest h = omega (arith, h, length-append part rest)
 
 -- ---- a call that runs, of which no check refuses
--- the number that the code answers is the definition's
-pub number_is : (n : ℕ) (x y : List ℤ) (l : Loan) (r : List ℕ) {k : ℕ} {s : Bool} → (n ≤ 256 → s ≡ short_of n x y l) → k ≡ refusal n (points x y) s r
-    → k ≡ refusal n (points x y) (short_of n x y l) r
-number_is n x y l r {s = s} h e = e ∙ same_refusal n (points x y) s (short_of n x y l) r h
+module _ (n : ℕ) (x y : List ℤ) (r cs : List ℕ) (l : Loan) {s m : Bool} (es : n ≤ 256 → s ≡ short_of n x y l) (em : m ≡ too_many cs) where
+  -- the number that the code answers is the definition's
+  pub number_is : {k : ℕ} → k ≡ refusal n (points x y) s m r → k ≡ first_refusal n x y r cs l
+  number_is e = e ∙ same_refusal n (points x y) s (short_of n x y l) m r es ∙ ap (λ (b : Bool). refusal n (points x y) (short_of n x y l) b r) em
 
-pub record Passing (n : ℕ) (x y : List ℤ) (l : Loan) (r : List ℕ) : Type 0 where
-  pub ok : refusal n (points x y) (short_of n x y l) r ≡ 0
-  pub accepted : Accepted n (points x y) (short_of n x y l) r
-  pub enough : Enough n l
-  pub plain : refusal n (points x y) false r ≡ 0
+  pub record Passing : Type 0 where
+    pub ok : first_refusal n x y r cs l ≡ 0
+    pub accepted : Accepted n (points x y) (short_of n x y l) (too_many cs) r
+    pub enough : Enough n l
+    pub plain : refusal n (points x y) false (too_many cs) r ≡ 0
 
-pub passing : (n : ℕ) (x y : List ℤ) (l : Loan) (r : List ℕ) {k : ℕ} {s : Bool} → (n ≤ 256 → s ≡ short_of n x y l) → k ≡ refusal n (points x y) s r → k ≡ 0
-    → Passing n x y l r
-passing n x y l r h e z =
-    let no : refusal n (points x y) (short_of n x y l) r ≡ 0 = sym (number_is n x y l r h e) ∙ z in
-    let a = (accepted n (points x y) (short_of n x y l) r).0 no in
-    record { ok = no; accepted = a; enough = enough n x y l a.long; plain = subst (λ s. refusal n (points x y) s r ≡ 0) a.long no }
+  pub passing : {k : ℕ} → k ≡ refusal n (points x y) s m r → k ≡ 0 → Passing
+  passing e z =
+      let no : first_refusal n x y r cs l ≡ 0 = sym (number_is e) ∙ z in
+      let a = (accepted n (points x y) (short_of n x y l) (too_many cs) r).0 no in
+      record { ok = no; accepted = a; enough = enough n x y l a.long; plain = subst (λ b. refusal n (points x y) b (too_many cs) r ≡ 0) a.long no }
 
 -- the answer of a run, by its counts
 module _ (n : ℕ) (pt : ℕ → Point) (r cs : List ℕ) where
@@ -183,21 +184,21 @@ module _ (n : ℕ) (pt : ℕ → Point) (r cs : List ℕ) where
       ∙ as_answered (eqb (length t.store.dense) 0) (finish n pt t.ring) t.ring k.moves k.cross k.left e
 
 -- ---- a call that runs from the ring r: `mid` holds it, and else what was lent
-module _ {n : ℕ} {x y : Bor (List ℤ)} (p : Points) (o : Of n x y p) (r : List ℕ) {was mid : Loan} (h : Starting n r was mid) where
+module _ {n : ℕ} {x y : Bor (List ℤ)} (p : Points) (o : Of n x y p) (r cs : List ℕ) {was mid : Loan} (h : Starting n r was mid) where
   -- the run can begin
-  pub ready : refusal n (points x.now y.now) false r ≡ 0
-      → Enough p.n mid × (take p.n mid.index ≡ index_of p.n (take p.n mid.ring)) × (refusal p.n (spots p) false (take p.n mid.ring) ≡ 0)
+  pub ready : refusal n (points x.now y.now) false (too_many cs) r ≡ 0
+      → Enough p.n mid × (take p.n mid.index ≡ index_of p.n (take p.n mid.ring)) × (refusal p.n (spots p) false (too_many cs) (take p.n mid.ring) ≡ 0)
   ready ok =
-      let Begins : (n : ℕ) → (ℕ → Point) → List ℕ → Type 0 = λ n pt l. (Enough n mid × (take n mid.index ≡ index_of n l) × (refusal n pt false l ≡ 0)) in
+      let Begins : (n : ℕ) → (ℕ → Point) → List ℕ → Type 0 = λ n pt l. (Enough n mid × (take n mid.index ≡ index_of n l) × (refusal n pt false (too_many cs) l ≡ 0)) in
       let begins : Begins n (points x.now y.now) (take n mid.ring) = subst⁻¹ (Begins n (points x.now y.now)) h.ring (h.enough, h.index, ok) in
       subst⁻¹ (λ (X : Type 0). X) (λ t. Begins (o.0 t) (points (o.1 t).now (o.2 t).now) (take (o.0 t) mid.ring)) begins
 
   -- it answers as the machine does, and writes nothing past what check 2 asks for
-  pub entry_ran : (cs : List ℕ) {is : Loan} (a : Result Delivered Refusal) {done : Resolved} → refusal n (points x.now y.now) (short_of n x.now y.now was) r ≡ 0
+  pub entry_ran : {is : Loan} (a : Result Delivered Refusal) {done : Resolved} → first_refusal n x.now y.now r cs was ≡ 0
       → RanIn p.n (spots p) cs mid is done
       → ((ring : List ℕ) → answer_of a ring ≡ cond (eqb done.left 0) (delivered ring done.moves done.cross) (unfinished ring done.moves done.left))
       → Entry n x.now y.now r cs was is (answer_of a (take n is.ring))
-  entry_ran cs {is} a {done} ok ran tells =
+  entry_ran {is} a {done} ok ran tells =
       let pt = points x.now y.now in
       let g : RanIn n pt cs mid is done = subst (λ (X : Type 0). X) (λ t. RanIn (o.0 t) (points (o.1 t).now (o.2 t).now) cs mid is done) ran in
       let counted = subst (λ l. Counted n pt (begin n pt l).now cs done.moves done.cross done.left) h.ring g.counted in
@@ -209,28 +210,17 @@ module _ {n : ℕ} {x y : Bor (List ℤ)} (p : Points) (o : Of n x y p) (r : Lis
         beyond = g.beyond ∙ h.beyond;
       }
 
--- ---- a refusal of the checks is told by its number
-number_small : (n : ℕ) (pt : ℕ → Point) (s : Bool) (r : List ℕ) → refusal n pt s r ≤ 7
-number_small n pt s r = seven (ltb 256 n) s (not (in_range n pt)) (not (each_once n r)) (not (none_alike n pt)) (ltb n 3) (all_below n (is_straight_line n pt r))
-  where
-    seven : (a b c d e f g : Bool) → cond a 1 (cond b 2 (cond c 3 (cond d 4 (cond e 5 (cond f 6 (cond g 7 0)))))) ≤ 7
-    seven true b c d e f g = omega arith
-    seven false true c d e f g = omega arith
-    seven false false true d e f g = omega arith
-    seven false false false true e f g = omega arith
-    seven false false false false true f g = omega arith
-    seven false false false false false true g = omega arith
-    seven false false false false false false true = omega arith
-    seven false false false false false false false = omega arith
+-- ---- a refusal of the checks is told by its number: only a run is refused with 8
+not_eight : (n : ℕ) (pt : ℕ → Point) (s m : Bool) (r : List ℕ) → refusal n pt s m r ≡ 8 → ⊥
+not_eight n pt s m r h = both (numbers n pt s m r) (λ l. omega (arith, l, h)) (λ l. omega (arith, l.0, h))
 
-told_by : (r : Refusal) (ring : List ℕ) → number_of r ≤ 7 → refusal_of r ring ≡ refused (number_of r)
-told_by (PicksUsedUp moves left) ring h = absurd (omega arith)
+told_by : (r : Refusal) (ring : List ℕ) → (number_of r ≡ 8 → ⊥) → refusal_of r ring ≡ refused (number_of r)
+told_by (PicksUsedUp moves left) ring h = absurd (h refl)
 told_by r ring h = refl
 
 -- a call that is refused
-pub entry_refused : (n : ℕ) (x y : List ℤ) (r cs : List ℕ) (l : Loan) (e : Refusal) {s : Bool} → (n ≤ 256 → s ≡ short_of n x y l) → number_of e ≡ refusal n (points x y) s r
+pub entry_refused : (n : ℕ) (x y : List ℤ) (r cs : List ℕ) (l : Loan) (e : Refusal) {s m : Bool} → (n ≤ 256 → s ≡ short_of n x y l) → m ≡ too_many cs → number_of e ≡ refusal n (points x y) s m r
     → Entry n x y r cs l l (refusal_of e (take n l.ring))
-entry_refused n x y r cs l e {s} h q =
-    let few = subst (λ k. k ≤ 7) (sym q) (number_small n (points x y) s r) in
-    let number = number_is n x y l r h q in
-    subst⁻¹ (λ a. Entry n x y r cs l l a) (told_by e (take n l.ring) few) (refused_entry n x y r cs l number (some_number e))
+entry_refused n x y r cs l e {s} {m} es em q =
+    subst⁻¹ (λ a. Entry n x y r cs l l a) (told_by e (take n l.ring) (λ z. not_eight n (points x y) s m r (sym q ∙ z)))
+    (refused_entry n x y r cs l (number_is n x y r cs l es em q) (some_number e))

@@ -1,2 +1,3 @@
 pub mod Answering
 pub mod Demand3Entries
+pub mod AgesLeft

@@ -3,7 +3,7 @@ use Rattle.std.specs.Prelude.{◌≡◌, ◌≢◌, Bool, List, [], ◌∷◌, �
 use Rattle.geometry.specs.Lent.{points}
 use Rattle.intersection_set.specs.Pool.{Buffers, lent}
 use Rattle.machine.specs.Machine.{begin}
-use Rattle.machine.specs.Answer.{Answer, refused, unfinished, delivered, refusal, call}
+use Rattle.machine.specs.Answer.{Answer, refused, unfinished, delivered, refusal, too_many, call}
 use Rattle.resolve.specs.Ended.{Ended}
 use Rattle.checks.specs.Checks.{short}
 use Rattle.refusal.specs.declared.Refusal.{Refusal}
@@ -31,7 +31,7 @@ abbrev pub loan : List ℕ → List ℕ → Buffers → Loan
 loan ring index records = record { ring = ring; index = index; records = records }
 
 abbrev pub each : (List ℕ → List ℕ) → Buffers → Buffers
-each f b = lent (f b.heads) (f b.ends) (f b.links) (f b.dense) (f b.reverse) (f b.free)
+each f b = lent (f b.heads) (f b.ends) (f b.links) (f b.ages) (f b.dense) (f b.reverse) (f b.free)
 
 -- the entries that check 2 asks for: n of ring and index, n×(n-1) of each buffer of the records
 abbrev pub front : ℕ → Loan → Loan
@@ -46,7 +46,7 @@ abbrev pub ring_sized : List ℤ → List ℤ → Loan → List ℕ
 ring_sized x y l = length x ∷ length y ∷ length l.ring ∷ length l.index ∷ []
 
 abbrev pub record_sized : Buffers → List ℕ
-record_sized b = length b.heads ∷ length b.ends ∷ length b.links ∷ length b.dense ∷ length b.reverse ∷ length b.free ∷ []
+record_sized b = length b.heads ∷ length b.ends ∷ length b.links ∷ length b.ages ∷ length b.dense ∷ length b.reverse ∷ length b.free ∷ []
 
 abbrev pub short_of : ℕ → List ℤ → List ℤ → Loan → Bool
 short_of n x y l = short n (ring_sized x y l) (record_sized l.records)
@@ -57,10 +57,14 @@ module _ (n : ℕ) (x y : List ℤ) where
   abbrev pub Holding : List ℕ → List ℕ → Loan → Type 0
   Holding r cs is = Ended n (points x y) (begin n (points x y) r).now cs (front n is).ring (front n is).index (front n is).records
 
+  -- the number of the first check that refuses it, or 0
+  abbrev pub first_refusal : List ℕ → List ℕ → Loan → ℕ
+  first_refusal r cs was = refusal n (points x y) (short_of n x y was) (too_many cs) r
+
   -- What an entry answers and leaves that starts from the ring r: the machine's answer to the call; all as it was if a check refuses, else the machine after
   -- the picks; nothing is ever written past what check 2 asks for.
   pub record Entry (r cs : List ℕ) (was is : Loan) (a : Answer) : Type 0 where
     pub answers : a ≡ call n (points x y) (short_of n x y was) r cs
-    pub untouched : refusal n (points x y) (short_of n x y was) r ≢ 0 → is ≡ was
-    pub ended : refusal n (points x y) (short_of n x y was) r ≡ 0 → Holding r cs is
+    pub untouched : first_refusal r cs was ≢ 0 → is ≡ was
+    pub ended : first_refusal r cs was ≡ 0 → Holding r cs is
     pub beyond : past n is ≡ past n was

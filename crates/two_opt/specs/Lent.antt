@@ -11,7 +11,7 @@ use Rattle.two_opt.specs.declared.workspace.Workspace.{Workspace}
 
 -- what its slices hold
 abbrev pub loan_of : Workspace → Loan
-loan_of w = loan w.ring.now w.index.now (lent w.heads.now w.ends.now w.links.now w.dense.now w.reverse.now w.free.now)
+loan_of w = loan w.ring.now w.index.now (lent w.heads.now w.ends.now w.links.now w.ages.now w.dense.now w.reverse.now w.free.now)
 
 -- the lengths of what is lent
 abbrev pub sizes : Loan → List ℕ
@@ -24,6 +24,7 @@ pub record SameWorkspace (v w : Workspace) : Type 0 where
   pub heads : w.heads.ghost_name ≡ v.heads.ghost_name
   pub ends : w.ends.ghost_name ≡ v.ends.ghost_name
   pub links : w.links.ghost_name ≡ v.links.ghost_name
+  pub ages : w.ages.ghost_name ≡ v.ages.ghost_name
   pub dense : w.dense.ghost_name ≡ v.dense.ghost_name
   pub reverse : w.reverse.ghost_name ≡ v.reverse.ghost_name
   pub free : w.free.ghost_name ≡ v.free.ghost_name
@@ -36,6 +37,7 @@ pub record Enough (n : ℕ) (l : Loan) : Type 0 where
   pub in_heads : n * (n - 1) ≤ length l.records.heads
   pub in_ends : n * (n - 1) ≤ length l.records.ends
   pub in_links : n * (n - 1) ≤ length l.records.links
+  pub in_ages : n * (n - 1) ≤ length l.records.ages
   pub in_dense : n * (n - 1) ≤ length l.records.dense
   pub in_reverse : n * (n - 1) ≤ length l.records.reverse
   pub in_free : n * (n - 1) ≤ length l.records.free

@@ -39,7 +39,7 @@ pub fn two_opt_moves(
     ensures entry { let is = loan_of work.new in
         Entry n x.now y.now (up_from 0 n) picks.now (loan_of work.old) is (answer_of result (take n is.ring)) }
 {
-    let points = work.given(n, x, y).check_in_order()?;
+    let points = work.given(n, x, y, picks).check_in_order()?;
     work.start_in_order(n);
     answer_of(work.resolve(points, picks))
 }
@@ -57,7 +57,7 @@ pub fn resolve_self_intersections(
     ensures entry { let is = loan_of work.new in
         Entry n x.now y.now (take n work.old.ring.now) picks.now (loan_of work.old) is (answer_of result (take n is.ring)) }
 {
-    let points = work.given(n, x, y).check_ring(work.ring())?;
+    let points = work.given(n, x, y, picks).check_ring(work.ring())?;
     work.start_from_ring(n);
     answer_of(work.resolve(points, picks))
 }

@@ -6,12 +6,12 @@ ghost use Rattle.polygon.specs.Ring.{index_of, IsRing, Indexed};
 ghost use Rattle.intersection_set.specs.Pool.{lent};
 ghost use Rattle.intersection_set.specs.Within.{Room};
 ghost use Rattle.machine.specs.Machine.{begin as starting};
-ghost use Rattle.machine.specs.Answer.{refusal};
+ghost use Rattle.machine.specs.Answer.{refusal, too_many};
 ghost use Rattle.resolve.specs.Ended.{Counted, Ended};
 ghost use Rattle.two_opt.specs.Entry.{short_of};
 ghost use Rattle.two_opt.specs.Lent.{loan_of, SameWorkspace, Enough, Starting, RanIn};
 
-use checks::accept::{Given, record_size, too_short};
+use checks::accept::{Given, record_size, too_many, too_short};
 use geometry::lent::Points;
 use intersection_set::intersection_set::IndexIntersectionSet;
 use intersection_set::utils::Counts;
@@ -25,6 +25,7 @@ pub struct Workspace<'a> {
     pub heads: &'a mut [u16],
     pub ends: &'a mut [u64],
     pub links: &'a mut [u64],
+    pub ages: &'a mut [u32],
     pub dense: &'a mut [u16],
     pub reverse: &'a mut [u16],
     pub free: &'a mut [u16],
@@ -40,28 +41,31 @@ fn resolve_in(
     heads: &mut [u16],
     ends: &mut [u64],
     links: &mut [u64],
+    ages: &mut [u32],
     dense: &mut [u16],
     reverse: &mut [u16],
     free: &mut [u16],
 ) -> Resolved
-    requires { let given = lent heads.old ends.old links.old dense.old reverse.old free.old in
-        Indexed points.n ring.old index.old × (refusal points.n (spots points) false ring.old ≡ 0) × Room points.n given }
+    requires { let given = lent heads.old ends.old links.old ages.old dense.old reverse.old free.old in
+        Indexed points.n ring.old index.old × (refusal points.n (spots points) false (too_many picks.now) ring.old ≡ 0) × Room points.n given }
     ensures { let n = points.entry.n in
         let pt = spots points.entry in
         let first = (starting n pt ring.old).now in
-        let is = lent heads.new ends.new links.new dense.new reverse.new free.new in
+        let is = lent heads.new ends.new links.new ages.new dense.new reverse.new free.new in
         Counted n pt first picks.now result.moves result.cross result.left × Ended n pt first picks.now ring.new index.new is }
 {
     let counts = Counts {
         live: 0,
         grown: 0,
         freed: 0,
+        pushes: 0,
     };
     let mut set = IndexIntersectionSet {
         vertices: points.n,
         heads,
         ends,
         links,
+        ages,
         dense,
         reverse,
         free,
@@ -72,22 +76,31 @@ fn resolve_in(
 }
 
 impl<'a> Workspace<'a> {
-    // A call with n points, with what check 2 says of it.
-    pub(crate) fn given<'p>(&self, n: usize, x: &'p [i32], y: &'p [i32]) -> Given<'p>
+    // A call with n points and these picks, with what checks 2 and 19 say of it.
+    pub(crate) fn given<'p>(&self, n: usize, x: &'p [i32], y: &'p [i32], picks: &[u32]) -> Given<'p>
         ensures points { (result.n ≡ n) × (result.x ≡ x.entry) × (result.y ≡ y.entry) }
         ensures short { n ≤ 256 → result.short ≡ short_of n x.now y.now (loan_of self.now) }
+        ensures many { result.many ≡ too_many picks.now }
     {
         let of_points = [x.len(), y.len(), self.ring.len(), self.index.len()];
         let of_records = [
             self.heads.len(),
             self.ends.len(),
             self.links.len(),
+            self.ages.len(),
             self.dense.len(),
             self.reverse.len(),
             self.free.len(),
         ];
         let short = too_short(n, &of_points, &of_records);
-        Given { n, x, y, short }
+        let many = too_many(picks);
+        Given {
+            n,
+            x,
+            y,
+            short,
+            many,
+        }
     }
 
     // The ring alone.
@@ -119,7 +132,7 @@ impl<'a> Workspace<'a> {
     pub(crate) fn resolve(&mut self, points: Points<'_>, picks: &[u32]) -> Resolved
         requires { let n = points.n in
             let start = take n self.old.ring.now in
-            Enough n (loan_of self.old) × (take n self.old.index.now ≡ index_of n start) × (refusal n (spots points) false start ≡ 0) }
+            Enough n (loan_of self.old) × (take n self.old.index.now ≡ index_of n start) × (refusal n (spots points) false (too_many picks.now) start ≡ 0) }
         ensures same { SameWorkspace self.old self.new }
         ensures ran { RanIn points.entry.n (spots points.entry) picks.now (loan_of self.old) (loan_of self.new) result }
     {
@@ -133,6 +146,7 @@ impl<'a> Workspace<'a> {
             &mut self.heads[..size],
             &mut self.ends[..size],
             &mut self.links[..size],
+            &mut self.ages[..size],
             &mut self.dense[..size],
             &mut self.reverse[..size],
             &mut self.free[..size],

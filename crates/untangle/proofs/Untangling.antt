@@ -2,12 +2,13 @@
 use mathlib.Core.Path.{◌≡◌, refl, sym, ◌∙◌, ap, subst, subst⁻¹}
 use mathlib.Core.Bool.{Bool, true, not, ◌&&◌, cond}
 use mathlib.Core.List.{List, [], ◌∷◌, ◌++◌}
-use Prim.Native.Nat.{ℕ, zero, suc, ◌≤◌, ◌<◌}
+use Prim.Native.Nat.{ℕ, zero, suc, ◌-◌, ◌*◌, ◌≤◌, ◌<◌}
 use native.Mathlib.Omega.{arith}
 use native.Mathlib.Nat.{mod-lt}
 use lib.ListN.{length, get_or}
 use borrow.Author.Tests.{ne_eqb}
 use Rattle.algebra.specs.Cases.{never, or_right}
+use Rattle.algebra.specs.Counting.{length_snoc}
 use Rattle.geometry.specs.Plane.{Point}
 use Rattle.index_edge.specs.Edge.{Edge, eq_edge, edge_in}
 use Rattle.index_edge.proofs.Edges.{eq_edge_of, lt_edge_diff, member_here, member_there}
@@ -28,6 +29,7 @@ use Rattle.machine.proofs.GoodPlan.{GoodPlan, Recorded, once_edges, good_plan, p
 use Rattle.machine.proofs.Exactly.{recorded, carry_exact}
 use Rattle.machine.proofs.Bounds.{few}
 use Rattle.machine.proofs.Room.{Whole, run_whole}
+use Rattle.machine.proofs.Pushes.{run_fits}
 use Rattle.machine.proofs.Ready.{ready_whole}
 use Rattle.machine.proofs.Moves.{run_append}
 use Rattle.machine.proofs.Accepted.{place_picks}
@@ -111,13 +113,19 @@ module _ (n : ℕ) (pt : ℕ → Point) (board : Board n pt) (s : State) (ready 
         let (j, lj, p) = member_edge n (turned n plan ring) e m in
         subst (Proper n) p (proper_at next_ring two j lj)
 
-    room : FitAll n pt (turned n plan ring) Others (lay n plan ring) (removes (cut n plan ring) store)
-    room = record { few = few n pt (twice_of s) (carry n pt plan t.now) (record { hoisted = by_hoist plan; news = lay n plan ring } ∷ t.log) (carry_exact n pt (twice_of s) plan t.now t.log good whole_after.inv.exact) }
-
     next_state_lem : state_after n pt s (cs ++ c ∷ []) ≡ carry n pt plan t.now
     next_state_lem =
         ap (λ (u : Traced). u.now) (run_append n pt place cs (c ∷ []) (from s))
         ∙ ap (λ (b : Bool). (cond b t (carried n pt plan t)).now) (ne_eqb (length store.dense) 0 (λ z. (let h = some in omega arith)))
+
+    -- the move ends with no more records than the buffers hold, and with few enough pushes
+    room : n ≤ 256 → s.store.pushes ≤ n * (n - 1) → length cs < 1000000 → FitAll n pt (turned n plan ring) Others (lay n plan ring) (removes (cut n plan ring) store)
+    room small young few_picks =
+        let fit = run_fits n pt board (twice_of s) place place_picks (cs ++ c ∷ []) (from s) (ready_whole n pt board s ready).inv small (omega (arith, few_picks, length_snoc cs c)) young in
+        record {
+          few = few n pt (twice_of s) (carry n pt plan t.now) (record { hoisted = by_hoist plan; news = lay n plan ring } ∷ t.log) (carry_exact n pt (twice_of s) plan t.now t.log good whole_after.inv.exact);
+          young = omega (arith, fit, ap (λ (u : State). u.store.pushes) next_state_lem);
+        }
 
 -- ---- the same of what the code holds
 module _ {n : ℕ} {pt : ℕ → Point} {s : State} {cs ring' index : List ℕ} {p : Pool} {c : ℕ} {e f : Edge} (run : Running n pt s cs ring' index p) (pick : Picked n pt s cs c e f) where
@@ -174,7 +182,7 @@ module _ {n : ℕ} {pt : ℕ → Point} {s : State} {cs ring' index : List ℕ} 
   turned_is_ring = rw (same_plan, run.same_ring) (next_ring n pt run.board s run.ready cs c pick.some)
 
   pub leaves_room : FitAll n pt (turned n the_plan ring') Others (lay n the_plan ring') (removes (cut n the_plan ring') (state_after n pt s cs).store)
-  leaves_room = rw (same_plan, run.same_ring) (room n pt run.board s run.ready cs c pick.some)
+  leaves_room = rw (same_plan, run.same_ring) (room n pt run.board s run.ready cs c pick.some run.few run.young pick.few_picks)
 
   pub then_ring : turned n the_plan ring' ≡ (state_after n pt s (cs ++ c ∷ [])).ring
   then_ring = rw (same_plan, run.same_ring) (sym (ap (λ (u : State). u.ring) (next_state_lem n pt run.board s run.ready cs c pick.some)))
@@ -195,6 +203,7 @@ module _ {n : ℕ} {pt : ℕ → Point} {s : State} {cs ring' index : List ℕ} 
       few = run.few;
       board = run.board;
       ready = run.ready;
+      young = run.young;
       same_ring = er ∙ then_ring;
       same_index = ex;
       holds = subst (Holds n p₁) ((λ i. scans pt (edges n (er i)) (ei i) (removes (ed i) (state_after n pt s cs).store)) ∙ then_store) h;

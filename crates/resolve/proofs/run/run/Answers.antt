@@ -10,7 +10,7 @@ use Rattle.intersection_set.proofs.Buffers.{same_then}
 use Rattle.machine.specs.Machine.{run_word, place}
 use Rattle.machine.specs.Onward.{from}
 use Rattle.std.proofs.lemmas.List.{take_more}
-use Rattle.resolve.proofs.Picking.{running_more, picked, one_more, ended_early}
+use Rattle.resolve.proofs.Picking.{running_more, still_few, picked, one_more, ended_early}
 use Rattle.resolve.proofs.run.run.Goals as goal
 
 pub returns-then-is_empty-clause-ran : goal.returns-then-is_empty-clause-ran
@@ -21,10 +21,10 @@ returns-then-is_empty-clause-ran c = λ s h.
 pub untangle-requires : goal.untangle-requires
 untangle-requires c =
     let v = c.loop-i.invariant in
-    let q = c.requires.1 in
+    let q = c.requires.2 in
     let run = (v.ran q.0 q.1).0 in
     let some : 0 < c.loop-i.set.counts.live = let z = eqb-false _ 0 (sym c.is_empty.ensures ∙ c.if-is_empty.false) in omega arith in
-    rw v.same.vertices (c.requires.0, (q.0, _, get_or c.args.picks.now c.loop-i.i 0, run, picked run some (c.random-isect.ensures _ _ _ run.holds refl refl refl)))
+    rw v.same.vertices (c.requires.0, (q.0, _, get_or c.args.picks.now c.loop-i.i 0, run, picked run (still_few c.args.picks.now c.loop-i-test.true c.requires.1) some (c.random-isect.ensures _ _ _ run.holds refl refl refl)))
 
 pub loop-i-preserved : goal.loop-i-preserved
 loop-i-preserved c =
@@ -40,7 +40,7 @@ loop-i-preserved c =
       ran =
           λ r h.
           let b = v.ran r h in (
-            running_more cs i l ((rw v.same.vertices at d.running) r (take i cs) (get_or cs i 0) b.0 (picked b.0 some (c.random-isect.ensures _ _ _ b.0.holds refl refl refl))),
+            running_more cs i l ((rw v.same.vertices at d.running) r (take i cs) (get_or cs i 0) b.0 (picked b.0 (still_few cs l c.requires.1) some (c.random-isect.ensures _ _ _ b.0.holds refl refl refl))),
             subst⁻¹ (λ (xs : List ℕ). length (run_word c.args.set.now.vertices (spots c.args.points) place xs (from r)).log ≡ i + 1) (take_more cs i 0 l) (one_more b.0 (get_or cs i 0) some b.1),
           );
     }
