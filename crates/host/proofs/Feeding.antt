@@ -1,5 +1,5 @@
 -- What `tour_feed` tells: a refusal where a check fails, else the feed of the loop.
-use Rattle.std.proofs.Common.{◌≡◌, sym, Bool, List, [], ◌∷◌, ℕ, ◌≤◌, length, take, ℤ, arith}
+use Rattle.std.proofs.Common.{◌≡◌, sym, Bool, false, List, [], ◌∷◌, ℕ, ◌≤◌, length, take, ℤ, arith}
 use Rattle.refusal.specs.declared.Refusal.{Refusal}
 use Rattle.refusal.specs.Number.{number_of}
 use Rattle.refusal.proofs.Numbers.{some_number}
@@ -18,10 +18,10 @@ module _ (n : ℕ) (x y : List ℤ) (r : List ℕ) where
   lengths = length x ∷ length y ∷ length r ∷ []
 
   abbrev pub number : ℕ
-  number = first_four n (points x y) (any_below n lengths) (take n r)
+  number = first_four n (points x y) (any_below n lengths) false (take n r)
 
   -- the checks' number, by the code's test of the lengths
-  pub number_is : {k : ℕ} {s : Bool} → k ≡ first_four n (points x y) s (take n r) → (n ≤ 256 → s ≡ short n lengths []) → k ≡ number
+  pub number_is : {k : ℕ} {s : Bool} → k ≡ first_four n (points x y) s false (take n r) → (n ≤ 256 → s ≡ short n lengths []) → k ≡ number
   number_is e h = grind arith
 
   pub told_refused : (e : Refusal) → number_of e ≡ number → denied (number_of e) ≡ fed n x y r
@@ -33,4 +33,4 @@ module _ (n : ℕ) (x y : List ℤ) (r : List ℕ) where
   told_feed e h = grind arith
 
   pub drawn : 0 ≡ number → Lent n x y → Drawn x y (take n r)
-  drawn e h = ring_drawn n x y (take n r) h (each_ring n (take n r) (four_passed n (points x y) (any_below n lengths) (take n r) (sym e)).1)
+  drawn e h = ring_drawn n x y (take n r) h (each_ring n (take n r) (four_passed n (points x y) (any_below n lengths) false (take n r) (sym e)).1)

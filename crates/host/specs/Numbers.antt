@@ -57,7 +57,7 @@ job_in_numbers (denied number) = record { code = number; points = 0; picks = 0 }
 -- What is told of a lent loop: the feed of the ring's first n entries, or the first of the checks 1 to 4 that fails; x, y and ring need n entries each.
 unfoldable pub fed : ℕ → (x y : List ℤ) (ring : List ℕ) → Told ℕ
 fed n x y ring =
-    let number = first_four n (points x y) (any_below n (length x ∷ length y ∷ length ring ∷ [])) (take n ring) in
+    let number = first_four n (points x y) (any_below n (length x ∷ length y ∷ length ring ∷ [])) false (take n ring) in
     cond (eqb number 0) (answered (feed_of (points x y) (take n ring))) (denied number)
 
 -- 0 with the feed, else the number of the refusal

@@ -34,7 +34,15 @@ fn feed(n: usize, x: &[i32], y: &[i32], ring: &[u16]) -> Result<u64, Refusal>
     ensures { told result ≡ fed n x.now y.now ring.now }
 {
     let short = too_short(n, &[x.len(), y.len(), ring.len()], &[]);
-    Given { n, x, y, short }.first_four(ring)?;
+    let many = false;
+    let given = Given {
+        n,
+        x,
+        y,
+        short,
+        many,
+    };
+    given.first_four(ring)?;
     let ring = &ring[..n];
     Ok(Loop { x, y, ring }.feed())
 }

@@ -60,12 +60,13 @@ pub extern "C" fn tour_two_opt_moves(
     heads: &mut [u16],
     ends: &mut [u64],
     links: &mut [u64],
+    ages: &mut [u32],
     dense: &mut [u16],
     reverse: &mut [u16],
     free: &mut [u16],
 ) -> TourAnswer
-    ensures { let was = loan ring.old index.old (lent heads.old ends.old links.old dense.old reverse.old free.old) in
-        let is = loan ring.new index.new (lent heads.new ends.new links.new dense.new reverse.new free.new) in
+    ensures { let was = loan ring.old index.old (lent heads.old ends.old links.old ages.old dense.old reverse.old free.old) in
+        let is = loan ring.new index.new (lent heads.new ends.new links.new ages.new dense.new reverse.new free.new) in
         ((a : Told) × (result ≡ in_numbers a) × Entry n x.now y.now (up_from 0 n) picks.now was is a) }
 {
     let mut work = Workspace {
@@ -74,6 +75,7 @@ pub extern "C" fn tour_two_opt_moves(
         heads,
         ends,
         links,
+        ages,
         dense,
         reverse,
         free,
@@ -93,12 +95,13 @@ pub extern "C" fn tour_resolve_self_intersections(
     heads: &mut [u16],
     ends: &mut [u64],
     links: &mut [u64],
+    ages: &mut [u32],
     dense: &mut [u16],
     reverse: &mut [u16],
     free: &mut [u16],
 ) -> TourAnswer
-    ensures { let was = loan ring.old index.old (lent heads.old ends.old links.old dense.old reverse.old free.old) in
-        let is = loan ring.new index.new (lent heads.new ends.new links.new dense.new reverse.new free.new) in
+    ensures { let was = loan ring.old index.old (lent heads.old ends.old links.old ages.old dense.old reverse.old free.old) in
+        let is = loan ring.new index.new (lent heads.new ends.new links.new ages.new dense.new reverse.new free.new) in
         ((a : Told) × (result ≡ in_numbers a) × Entry n x.now y.now (take n ring.old) picks.now was is a) }
 {
     let mut work = Workspace {
@@ -107,6 +110,7 @@ pub extern "C" fn tour_resolve_self_intersections(
         heads,
         ends,
         links,
+        ages,
         dense,
         reverse,
         free,

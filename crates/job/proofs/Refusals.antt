@@ -126,6 +126,11 @@ pub never_eight : (job : List ℕ) (nx ny np : ℕ) → refusal job nx ny np ≡
 unfolding refusal decide
 never_eight job nx ny np h = grind arith
 
+-- the reader's numbers end with 13
+pub up_to_thirteen : (job : List ℕ) (nx ny np : ℕ) → refusal job nx ny np ≤ 13
+unfolding refusal decide
+up_to_thirteen job nx ny np = grind arith
+
 -- ---- the two answers of the reader
 pub refused_reading : (job : List ℕ) (x y : List ℤ) (picks : List ℕ) (r : Refusal) → number_of r ≡ refusal job (length x) (length y) (length picks)
     → Reading job x y picks (Err r) x y picks

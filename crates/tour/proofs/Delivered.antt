@@ -11,7 +11,7 @@ use Rattle.geometry.specs.Plane.{Point}
 use Rattle.geometry.specs.Lent.{points}
 use Rattle.polygon.specs.Ring.{IsRing}
 use Rattle.intersection_set.specs.Store.{Rec}
-use Rattle.machine.specs.Answer.{Answer, refused, unfinished, delivered, finish, answer, refusal, call}
+use Rattle.machine.specs.Answer.{Answer, refused, unfinished, delivered, finish, answer, refusal, too_many, call}
 use Rattle.machine.specs.Machine.{after, place}
 use Rattle.machine.specs.Demand3.{Demand3, last_pairs}
 use Rattle.machine.proofs.Accepted.{accepted, demand3_call}
@@ -24,16 +24,16 @@ ring_of (unfinished r m l) = r
 ring_of (delivered r m c) = r
 
 module _ (n : ℕ) (pt : ℕ → Point) (short : Bool) (r cs : List ℕ) {l : List ℕ} {m c : ℕ} (e : call n pt short r cs ≡ delivered l m c) where
-  none_refused : refusal n pt short r ≡ 0
+  none_refused : refusal n pt short (too_many cs) r ≡ 0
   none_refused =
-      both (eq_cases (refusal n pt short r) 0) (λ h. h.0)
+      both (eq_cases (refusal n pt short (too_many cs) r) 0) (λ h. h.0)
       (λ h.
       let a = answer n pt r (after n pt place cs r) in
-      let no : refused (refusal n pt short r) ≡ delivered l m c = sym (ap (λ t. cond t a (refused (refusal n pt short r))) h.1) ∙ e in
+      let no : refused (refusal n pt short (too_many cs) r) ≡ delivered l m c = sym (ap (λ t. cond t a (refused (refusal n pt short (too_many cs) r))) h.1) ∙ e in
       absurd (let z : ◌≡◌ {A = ℕ} 0 1 = cc in omega arith))
 
   pub delivered_ring : IsRing n l
-  delivered_ring = by_search (demand3_call n pt short r none_refused cs) (last_pairs n pt place cs r) refl
+  delivered_ring = by_search (demand3_call n pt short r cs none_refused) (last_pairs n pt place cs r) refl
     where
       by_search : (call n pt short r cs ≡ answer n pt r (after n pt place cs r)) × Demand3 n pt place cs r → (found : List Rec) → last_pairs n pt place cs r ≡ found → IsRing n l
       by_search d [] none =
@@ -47,7 +47,7 @@ module _ (n : ℕ) (pt : ℕ → Point) (short : Bool) (r cs : List ℕ) {l : Li
   -- no edge of a delivered loop has equal ends: each has some feed
   pub delivered_feeds : (i : ℕ) → i < n → 1 ≤ edge_feed pt l i
   delivered_feeds =
-      let b = ((accepted n pt short r).0 none_refused).board in
+      let b = ((accepted n pt short (too_many cs) r).0 none_refused).board in
       edge_some n pt l (omega (arith, b.three)) delivered_ring b.distinct
 
 -- a board with such an edge is refused

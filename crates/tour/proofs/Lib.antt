@@ -8,3 +8,5 @@ pub mod Jobs
 pub mod Room
 -- A refusal is told by its line
 pub mod Told
+-- A job's picks are few enough
+pub mod Picks

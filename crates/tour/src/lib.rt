@@ -51,6 +51,7 @@ fn deliver(points: Points<'_>, picks: &[u32], out: &mut [u8]) -> usize
     let mut heads = [0u16; 2256];
     let mut ends = [0u64; 2256];
     let mut links = [0u64; 2256];
+    let mut ages = [0u32; 2256];
     let mut dense = [0u16; 2256];
     let mut reverse = [0u16; 2256];
     let mut free = [0u16; 2256];
@@ -60,6 +61,7 @@ fn deliver(points: Points<'_>, picks: &[u32], out: &mut [u8]) -> usize
         heads: &mut heads,
         ends: &mut ends,
         links: &mut links,
+        ages: &mut ages,
         dense: &mut dense,
         reverse: &mut reverse,
         free: &mut free,
