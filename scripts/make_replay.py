@@ -11,8 +11,9 @@ up, or `error DuplicatePoints`, `InsufficientVertices` or `CoLinearViolation`. I
     mkdir -p standin/src/algorithms/polygonization standin/src/algorithms/intersection && sh build.sh OUT SOURCES
 in a copy of the oracle's folder, and is then OUT/oracle.
 
-It is asked whatever it has an answer to. What the project adds is answered by rule (`ruled`): more than 256 points, coordinates
-outside the limits, a ring that does not name each point once, and in `resolve_self_intersections` equal points and fewer than three.
+It is asked whatever it has an answer to. What the project adds is answered by rule (`ruled`): more than 256 points or 1,000,000 picks, coordinates
+outside the limits, a ring that does not name each point once, and in `resolve_self_intersections` equal points and fewer than three. It keeps no
+ages: those of the records left are the definition's (machine.py), whose ring, moves and records must be its answer.
 
 The format is told in crates/replay/src/main.rt. The last case is cut off.
 """
@@ -23,7 +24,10 @@ import struct
 import subprocess
 import sys
 
+from machine import ran
+
 LIMIT = 1_000_000_000
+MOST_PICKS = 1_000_000
 FOLDER = os.path.join(os.path.dirname(os.path.dirname(os.path.abspath(__file__))), "crates", "replay")
 REFUSAL = {"DuplicatePoints": 5, "InsufficientVertices": 6, "CoLinearViolation": 7}
 MOVES, RING = 0, 1
@@ -31,7 +35,7 @@ MOVES, RING = 0, 1
 
 class Case:
     def __init__(self, kind, points, ring, picks):
-        self.kind, self.points, self.ring, self.picks = kind, list(points), list(ring), list(picks)
+        self.kind, self.points, self.ring, self.picks, self.again = kind, list(points), list(ring), list(picks), False
 
 
 def moves(points, picks):
@@ -40,6 +44,12 @@ def moves(points, picks):
 
 def ring(points, order, picks):
     return Case(RING, points, order, picks)
+
+
+def again(case, times):
+    """The same case with its one pick made so often."""
+    case.picks, case.again = case.picks * times, True
+    return case
 
 
 def lcg(seed, count):
@@ -182,6 +192,17 @@ def picks_of_any_value(r):
     return found
 
 
+def many_picks():
+    """As many picks as a run may have, and one more; then the other refusals with as many."""
+    seven = [(12, 0), (1, 0), (3, -5), (0, 0), (10, 0), (2, 0), (6, 5)]
+    found = []
+    for times in (MOST_PICKS, MOST_PICKS + 1):
+        found += [again(moves(seven, [7]), times), again(ring(seven, range(7), [7]), times)]
+        found += [again(moves([(LIMIT + 1, 0)] + seven, [7]), times), again(moves([(k, 0) for k in range(257)], [7]), times)]
+        found += [again(moves(seven + seven, [7]), times), again(ring(seven, [0] * 7, [7]), times)]
+    return found
+
+
 def refused(r):
     """Each refusal by itself, and before the ones with greater numbers."""
     found = []
@@ -207,7 +228,7 @@ def refused(r):
 
 def cases():
     r = random.Random(20)
-    return told() + every_order() + small(r) + beginnings(r) + large(r) + picks_of_any_value(r) + refused(r)
+    return told() + every_order() + small(r) + beginnings(r) + large(r) + picks_of_any_value(r) + refused(r) + many_picks()
 
 
 # ---- answers ----
@@ -217,6 +238,8 @@ def ruled(case):
     n = len(case.points)
     if n > 256:
         return 1
+    if len(case.picks) > MOST_PICKS:
+        return 19
     if any(abs(v) > LIMIT for p in case.points for v in p):
         return 3
     if case.kind == MOVES:
@@ -234,7 +257,16 @@ def question(case):
     return " ".join(map(str, words)) + "\n"
 
 
-def answer(line):
+def ages(case, told):
+    """The line of ages behind what the original told of a run that used up its picks."""
+    machine = ran(case.points, case.ring or range(len(case.points)), case.picks)
+    records = ["record %d %d %d %d" % (*e, *f) for e, f, _, _ in machine.store.dense]
+    state = ["refused 8 moves %d left %d" % (machine.moves, len(records)), " ".join(["ring", *map(str, machine.ring)])]
+    assert state + records == told.splitlines(), (case.points, case.ring, case.picks)
+    return "ages" + "".join(" %d" % age for _, _, age, _ in machine.store.dense) + "\n"
+
+
+def answer(case, line):
     parts = [p.strip() for p in line.split("|")]
     if parts[0].startswith("error"):
         return "refused %d\n" % REFUSAL[parts[0].split()[1]]
@@ -244,13 +276,15 @@ def answer(line):
         return "ok moves %d cross %d\n" % (int(field["moves"]), int(field["cross"])) + order
     assert parts[0] == "out", line
     records = "".join("record %s\n" % " ".join(p.replace("-", " ").split()) for p in field["dense"].split(","))
-    return "refused 8 moves %d left %d\n" % (int(field["moves"]), int(field["left"])) + order + records
+    told = "refused 8 moves %d left %d\n" % (int(field["moves"]), int(field["left"])) + order + records
+    return told + ages(case, told)
 
 
 def encode(case):
     n, k = len(case.points), len(case.picks)
+    kind, picks = (case.kind + 2, case.picks[:1]) if case.again else (case.kind, case.picks)
     coordinates = [v for p in case.points for v in p]
-    return struct.pack("<III%di%dI%dI" % (2 * n, len(case.ring), k), case.kind, n, k, *coordinates, *case.ring, *case.picks)
+    return struct.pack("<III%di%dI%dI" % (2 * n, len(case.ring), len(picks)), kind, n, k, *coordinates, *case.ring, *picks)
 
 
 def main():
@@ -266,7 +300,7 @@ def main():
     with open(os.path.join(FOLDER, "stdout"), "w") as out:
         for case in found:
             number = ruled(case)
-            out.write(answer(next(told_lines)) if number is None else "refused %d\n" % number)
+            out.write(answer(case, next(told_lines)) if number is None else "refused %d\n" % number)
         out.write("bad case %d\n" % (len(found) + 1))
     kinds = [sum(c.kind == k for c in asked) for k in (MOVES, RING)]
     ends = [sum(l.startswith(w) for l in lines) for w in ("ok", "out", "error")]

@@ -34,13 +34,25 @@ fn write_records<W: Write>(out: &mut W, slots: &[u16], ends: &[u64]) -> io::Resu
     Ok(())
 }
 
-// What an entry answered, with the ring and the records left.
+// `ages A B ..`, for the record in each slot.
+fn write_ages<W: Write>(out: &mut W, slots: &[u16], ages: &[u32]) -> io::Result<()> {
+    write!(out, "ages")?;
+    for slot in slots {
+        if let Some(age) = ages.get(*slot as usize) {
+            write!(out, " {age}")?;
+        }
+    }
+    writeln!(out)
+}
+
+// What an entry answered, with the ring and the records left and their ages.
 pub fn write_answer<W: Write>(
     out: &mut W,
     done: Result<Delivered, Refusal>,
     ring: &[u16],
     dense: &[u16],
     ends: &[u64],
+    ages: &[u32],
 ) -> io::Result<()> {
     match done {
         Ok(Delivered { moves, cross }) => {
@@ -54,7 +66,9 @@ pub fn write_answer<W: Write>(
                 refusal.number()
             )?;
             write_ring(out, ring)?;
-            write_records(out, &dense[..left.min(dense.len())], ends)
+            let slots = &dense[..left.min(dense.len())];
+            write_records(out, slots, ends)?;
+            write_ages(out, slots, ages)
         }
         Err(refusal) => writeln!(out, "refused {}", refusal.number()),
     }

@@ -23,13 +23,14 @@ impl TryFrom<u32> for Kind {
     }
 }
 
-// The words of a case. Only a case for `resolve_self_intersections` has a ring.
+// The words of a case. Only a case for `resolve_self_intersections` has a ring. The last of its picks is made again until there are `count`.
 #[derive(Clone, Copy)]
 pub struct Case<'a> {
     pub kind: Kind,
     pub points: &'a [[u8; 4]],
     pub ring: &'a [[u8; 4]],
     pub picks: &'a [[u8; 4]],
+    pub count: usize,
 }
 
 // Takes so many words off the input.
@@ -45,13 +46,18 @@ pub fn next_case<'a>(input: &mut &'a [u8]) -> Result<Option<Case<'a>>, BadCase> 
     if input.is_empty() {
         return Ok(None);
     }
-    let [kind, n, picks] = take_words(input, 3)? else {
+    let [kind, n, count] = take_words(input, 3)? else {
         return Err(BadCase);
     };
-    let kind = Kind::try_from(u32::from_le_bytes(*kind))?;
+    let word = u32::from_le_bytes(*kind);
     let n = u32::from_le_bytes(*n) as usize;
-    let picks = u32::from_le_bytes(*picks) as usize;
-    if 4096 < picks {
+    let count = u32::from_le_bytes(*count) as usize;
+    let (kind, listed) = match word {
+        2 | 3 => (word - 2, 1),
+        _ => (word, count),
+    };
+    let kind = Kind::try_from(kind)?;
+    if 4096 < listed || 1_000_001 < count {
         return Err(BadCase);
     }
     let entries = match kind {
@@ -62,6 +68,7 @@ pub fn next_case<'a>(input: &mut &'a [u8]) -> Result<Option<Case<'a>>, BadCase> 
         kind,
         points: take_words(input, 2 * n)?,
         ring: take_words(input, entries)?,
-        picks: take_words(input, picks)?,
+        picks: take_words(input, listed)?,
+        count,
     }))
 }

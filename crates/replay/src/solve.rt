@@ -19,6 +19,7 @@ pub struct Buffers {
     heads: Vec<u16>,
     ends: Vec<u64>,
     links: Vec<u64>,
+    ages: Vec<u32>,
     dense: Vec<u16>,
     reverse: Vec<u16>,
     free: Vec<u16>,
@@ -31,6 +32,7 @@ impl Buffers {
             heads: vec![in alloc; 2; RECORDS]?,
             ends: vec![in alloc; 3; RECORDS]?,
             links: vec![in alloc; 5; RECORDS]?,
+            ages: vec![in alloc; 7; RECORDS]?,
             dense: vec![in alloc; 11; RECORDS]?,
             reverse: vec![in alloc; 12; RECORDS]?,
             free: vec![in alloc; 13; RECORDS]?,
@@ -53,6 +55,7 @@ impl Buffers {
             heads: &mut self.heads,
             ends: &mut self.ends,
             links: &mut self.links,
+            ages: &mut self.ages,
             dense: &mut self.dense,
             reverse: &mut self.reverse,
             free: &mut self.free,
@@ -80,17 +83,19 @@ impl Buffers {
             .iter()
             .map(|p| i32::from_le_bytes(p[1]))
             .collect::<Vec<i32>>(alloc)?;
-        let picks = case
+        let mut picks = case
             .picks
             .iter()
             .map(|w| u32::from_le_bytes(*w))
             .collect::<Vec<u32>>(alloc)?;
+        let last = picks.last().copied().unwrap_or(0);
+        picks.resize(case.count, last)?;
         let entries = case.ring.iter().map(|w| u16::try_from(u32::from_le_bytes(*w)).unwrap_or(
             u16::MAX,
         ));
         let mut ring = entries.collect::<Vec<u16>>(alloc)?;
         ring.resize(n, 0)?;
         let done = self.run(case.kind, n, &x, &y, &picks, &mut ring);
-        write_answer(out, done, &ring, &self.dense, &self.ends)
+        write_answer(out, done, &ring, &self.dense, &self.ends, &self.ages)
     }
 }
