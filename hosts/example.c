@@ -7,11 +7,12 @@ enum { N = 8, PAIRS = N * (N - 1) };
 
 static uint16_t ring[N + 1], index_of[N], work[4][PAIRS];
 static uint64_t words[2][PAIRS];
+static uint32_t ages[PAIRS], many_picks[1000001];
 
-/* One call with all buffers; `room` is the length that the six work buffers are lent with. */
+/* One call with all buffers; `room` is the length that the seven work buffers are lent with. */
 static tour_answer call(int from_ring, size_t n, const int32_t *x, const int32_t *y, const uint32_t *picks, size_t picks_len, size_t room) {
     return (from_ring ? tour_resolve_self_intersections : tour_two_opt_moves)(n, x, N, y, N, picks, picks_len, ring, N, index_of, N,
-        work[0], room, words[0], room, words[1], room, work[1], room, work[2], room, work[3], room);
+        work[0], room, words[0], room, words[1], room, ages, room, work[1], room, work[2], room, work[3], room);
 }
 
 /* The answer, and for a loop or a state the ring and the records left. */
@@ -24,6 +25,20 @@ static void show(const char *title, size_t n, tour_answer a) {
     for (size_t i = 0; i < a.left; i++) {
         uint64_t w = words[0][work[1][i]];
         printf("  record %u-%u %u-%u\n", TOUR_MIN0(w), TOUR_MAX0(w), TOUR_MIN1(w), TOUR_MAX1(w));
+    }
+}
+
+/* The records left, the one made first at the front. */
+static void show_by_age(size_t left) {
+    uint16_t slots[PAIRS];
+    for (size_t i = 0; i < left; i++) {
+        size_t at = i;
+        for (; at > 0 && ages[slots[at - 1]] > ages[work[1][i]]; at--) slots[at] = slots[at - 1];
+        slots[at] = work[1][i];
+    }
+    for (size_t i = 0; i < left; i++) {
+        uint64_t w = words[0][slots[i]];
+        printf("  age %u %u-%u %u-%u\n", (unsigned)ages[slots[i]], TOUR_MIN0(w), TOUR_MAX0(w), TOUR_MIN1(w), TOUR_MAX1(w));
     }
 }
 
@@ -83,6 +98,7 @@ int main(void) {
 
     memset(work, 0xa5, sizeof work);
     memset(words, 0xa5, sizeof words);
+    memset(ages, 0xa5, sizeof ages);
     ring[N] = 4711;
     show("loop", read.points, call(0, read.points, x, y, picks, read.picks, PAIRS));
     show("no picks", read.points, call(0, read.points, x, y, NULL, 0, PAIRS));
@@ -101,6 +117,13 @@ int main(void) {
     static const int32_t row_x[N] = {12, 1, 3, 0, 10, 2, 6}, row_y[N] = {0, 0, -5, 0, 0, 0, 5};
     show("a row, one pick", 7, call(0, 7, row_x, row_y, (uint32_t[]){0}, 1, PAIRS));
     show_list(7, 1, 4);
+    tour_answer five = call(0, 5, (const int32_t[N]){2, 0, 2, 0, 2}, (const int32_t[N]){3, 2, 2, 4, 0}, (uint32_t[]){0}, 1, PAIRS);
+    show("five points, one pick", 5, five);
+    show_by_age(five.left);
+    show("1000000 picks", 7, call(0, 7, row_x, row_y, many_picks, 1000000, PAIRS));
+    show("1000001 picks", 7, call(0, 7, row_x, row_y, many_picks, 1000001, PAIRS));
+    show("1000001 picks, too far", 7, call(0, 7, (int32_t[N]){1000000001}, row_y, many_picks, 1000001, PAIRS));
+    show("1000001 picks, short buffers", 7, call(0, 7, row_x, row_y, many_picks, 1000001, 41));
     printf("past the ring: %u\n", ring[N]);
 
     show_fault("ring", 4, (uint16_t[]){0, 2, 1, 3});

@@ -79,6 +79,26 @@ fn main() {
     show("a row, one pick", 7, a, &lent);
     let meeting: Vec<String> = lent.meeting(7, [1, 4]).map(|[a, b]| format!(" {a}-{b}")).collect();
     println!("  1-4 meets{}", meeting.concat());
+    let a = tour::two_opt_moves(5, &[2, 0, 2, 0, 2], &[3, 2, 2, 4, 0], &[0], &mut lent);
+    show("five points, one pick", 5, a, &lent);
+    let Answer::Stopped { left, .. } = a else { panic!("a loop") };
+    let mut by_age: Vec<(u32, [u16; 4])> = lent.ages(left).zip(lent.records(left)).collect();
+    by_age.sort();
+    for (age, [a, b, c, d]) in by_age {
+        println!("  age {age} {a}-{b} {c}-{d}");
+    }
+    let many = vec![0; 1_000_001];
+    let a = tour::two_opt_moves(7, &row.0, &row.1, &many[1..], &mut lent);
+    show("1000000 picks", 7, a, &lent);
+    let a = tour::two_opt_moves(7, &row.0, &row.1, &many, &mut lent);
+    show("1000001 picks", 7, a, &lent);
+    let a = tour::two_opt_moves(7, &[1_000_000_001, 0, 0, 0, 0, 0, 0], &row.1, &many, &mut lent);
+    show("1000001 picks, too far", 7, a, &lent);
+    let mut short = Buffers::new(6);
+    short.ring.push(0);
+    short.index.push(0);
+    let a = tour::two_opt_moves(7, &row.0, &row.1, &many, &mut short);
+    show("1000001 picks, short buffers", 7, a, &short);
     println!("past the ring: {}", lent.ring[8]);
 
     for (title, n, ring) in [

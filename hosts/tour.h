@@ -2,7 +2,7 @@
  *
  * A slice is a pointer and a length in elements; where the length is 0 the pointer may be NULL. What the functions cannot
  * see, and the host answers for: a pointer is good for its length and aligned, and no buffer that a call writes shares memory with another
- * buffer of the same call. Everything else is checked before anything is written, in the order of the refusal numbers (a job: 9 to 13, then 2):
+ * buffer of the same call. Everything else is checked before anything is written, in the order 1, 2, 19, 3 to 7 (a job: 9 to 13, then 2):
  *
  *    1  more than 256 points
  *    2  a buffer shorter than the call needs
@@ -12,7 +12,7 @@
  *    8  the picks are used up and records are left: ring and work buffers hold the state
  *    9  a job shorter than 20 or longer than 16384 bytes              10  a total word that is not that length
  *   11  a job of more than 48 points                                  12  an area outside the job
- *   13  a byte that belongs to both areas of a job
+ *   13  a byte that belongs to both areas of a job                       19  more than 1000000 picks
  *
  * Every refusal but 8 leaves all buffers of the call as they were. No function keeps a pointer, allocates or fails otherwise;
  * calls in different threads do not touch each other.
@@ -31,8 +31,8 @@ typedef struct {
 
 /* The entries of n points. They need
  *    x, y, ring, index           n elements each
- *    heads .. release (six)      n * (n - 1) elements each, none for n = 0
- * and never touch an element past those. picks may have any length. Work buffers may hold anything at first; ring too, but in
+ *    heads .. release (seven)    n * (n - 1) elements each, none for n = 0
+ * and never touch an element past those. picks has at most 1000000 elements. Work buffers may hold anything at first; ring too, but in
  * tour_resolve_self_intersections, which starts from it. x, y and picks are only read.
  * Code 0: ring[0 .. n-1] is the loop, counter-clockwise, and index is its inverse.
  * Code 8: ring and index are those after the last move, and the records left are these. The slots dense[0 .. left-1] are live. A record is two
@@ -40,6 +40,8 @@ typedef struct {
  *    ends[s]     min0, max0, min1, max1    the points of its two edges, the smaller edge first, of an edge the smaller point
  *    links[s]    next0, prev0, next1, prev1    along the list of its first edge, and of its second: the slot of the next older record and of the next newer
  *                one that names that edge, TOUR_NONE for none
+ * ages[s] is the record's age: the count of records made before it in the run, those since removed too. No two records left share one, and
+ * along each edge's list ages fall.
  * heads[b + n * a] is the slot of the newest record that names the edge of a and b, a < b; TOUR_NONE for none.
  * reverse[s] is where a live slot stands in dense. Entries of other slots mean nothing. */
 #define TOUR_NONE 65535
@@ -56,8 +58,8 @@ typedef struct {
 #define TOUR_WORK \
     size_t n, const int32_t *x, size_t x_len, const int32_t *y, size_t y_len, const uint32_t *picks, size_t picks_len, \
     uint16_t *ring, size_t ring_len, uint16_t *index, size_t index_len, uint16_t *heads, size_t heads_len, \
-    uint64_t *ends, size_t ends_len, uint64_t *links, size_t links_len, uint16_t *dense, size_t dense_len, \
-    uint16_t *reverse, size_t reverse_len, uint16_t *release, size_t release_len
+    uint64_t *ends, size_t ends_len, uint64_t *links, size_t links_len, uint32_t *ages, size_t ages_len, \
+    uint16_t *dense, size_t dense_len, uint16_t *reverse, size_t reverse_len, uint16_t *release, size_t release_len
 
 /* A loop through the points, starting in their own order 0, 1, 2, .. */
 tour_answer tour_two_opt_moves(TOUR_WORK);
