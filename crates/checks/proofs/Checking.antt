@@ -81,7 +81,7 @@ module _ (n : ℕ) (pt : ℕ → Point) (s m : Bool) (r : List ℕ) where
   pub four_passed : first_four n pt s m r ≡ 0 → (early n pt s m ≡ 0) × (each_once n r ≡ true)
   four_passed h = let k = four_few (ltb 256 n) s m (not (in_range n pt)) (not (each_once n r)) h in (k.0, not_false _ k.1)
 
-  -- the three first checks pass
+  -- the checks before that of the ring pass
   module _ (ok : early n pt s m ≡ 0) where
     rest : refusal n pt s m r ≡ from_four
     rest = let (a, b, d, c) = early_few (ltb 256 n) s m (not (in_range n pt)) ok in (λ i. one_to_three (a i) (b i) (d i) (c i) from_four)

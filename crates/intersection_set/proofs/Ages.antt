@@ -12,10 +12,10 @@ use Rattle.algebra.specs.Cases.{both, true_or_false}
 use Rattle.algebra.specs.Counting.{one}
 use Rattle.index_edge.specs.Edge.{Edge}
 use Rattle.index_edge.proofs.Edges.{eq_edge_refl}
-use Rattle.intersection_set.specs.Store.{Rec, Store, no_rec}
+use Rattle.intersection_set.specs.Store.{Rec, Store, no_rec, names}
 use Rattle.intersection_set.specs.Numbered.{Numbered}
-use Rattle.intersection_set.specs.Lists.{none, slot_of, list_of, first_or, after}
-use Rattle.intersection_set.specs.Pool.{Buffers, no_ends, links_of}
+use Rattle.intersection_set.specs.Lists.{none, slot_of, list_of, first_or, after, next_of}
+use Rattle.intersection_set.specs.Pool.{Buffers, Ends, no_ends, links_of}
 use Rattle.intersection_set.specs.Holds.{Each, AgedIn, Shows}
 use Rattle.intersection_set.proofs.Slots.{age_below}
 use Rattle.intersection_set.proofs.Chains.{Falling, names_first, names_second}
@@ -52,26 +52,34 @@ fall_next a (r ∷ l) f h x i u =
         omega (arith, p, q, o, z)
 
 -- ---- what a reader of the buffers sees
+-- by the links along the records' first edges, or along their second, the next record is older
+abbrev pub OlderNext : (Ends → ℕ) → Buffers → Store → Type 0
+OlderNext side b s =
+    (j : ℕ) → j < length s.dense
+    → let x = (get_or s.dense j no_rec).slot in let y = side (get_or (links_of b.heads b.links).next x no_ends) in y ≢ none → get_or b.ages y 0 < get_or b.ages x 0
+
+-- no two live slots hold the same
+abbrev pub OwnAges : Buffers → Store → Type 0
+OwnAges b s = (j k : ℕ) → j < k → k < length s.dense → get_or b.ages (get_or s.dense j no_rec).slot 0 ≢ get_or b.ages (get_or s.dense k no_rec).slot 0
+
 module _ (n : ℕ) (b : Buffers) (s : Store) (numbered : Numbered s) (z : Shows n b s) where
   listed : (e : Edge) → Each (AgedIn b.ages) (list_of e s.dense)
   listed e i h = let (j, k, q, _) = listed_is_live e s.dense i h in rw (← q) (z.ages j k)
 
-  -- along each edge's list, by the links, ages strictly fall: where x is the slot of a record and y the next one along its first edge ..
-  pub ages_fall_first : (j : ℕ) → j < length s.dense
-      → let x = (get_or s.dense j no_rec).slot in let y = (get_or (links_of b.heads b.links).next x no_ends).x0 in y ≢ none → get_or b.ages y 0 < get_or b.ages x 0
-  ages_fall_first j i u =
-      let r : Rec = get_or s.dense j no_rec in
-      let q = (z.linked j i).next0 in
-      rw q (fall_next b.ages (list_of r.e0 s.dense) (ages_fall s numbered r.e0) (listed r.e0) r.slot (slot_in_list s r.e0 j i (names_first r.e0 r (eq_edge_refl r.e0))) (λ w. u (q ∙ w)))
+  -- the slot next to that of the live record j in the list of e, which it names, and which the buffers have as y
+  next_older : (e : Edge) (j : ℕ) → j < length s.dense → names e (get_or s.dense j no_rec) ≡ true → let x = (get_or s.dense j no_rec).slot in (y : ℕ) → y ≡ next_of e x s → y ≢ none
+      → get_or b.ages y 0 < get_or b.ages x 0
+  next_older e j i named y q u =
+      rw q (fall_next b.ages (list_of e s.dense) (ages_fall s numbered e) (listed e) (get_or s.dense j no_rec).slot (slot_in_list s e j i named) (λ w. u (q ∙ w)))
 
-  -- .. or along its second
-  pub ages_fall_second : (j : ℕ) → j < length s.dense
-      → let x = (get_or s.dense j no_rec).slot in let y = (get_or (links_of b.heads b.links).next x no_ends).x1 in y ≢ none → get_or b.ages y 0 < get_or b.ages x 0
-  ages_fall_second j i u =
-      let r : Rec = get_or s.dense j no_rec in
-      let q = (z.linked j i).next1 in
-      rw q (fall_next b.ages (list_of r.e1 s.dense) (ages_fall s numbered r.e1) (listed r.e1) r.slot (slot_in_list s r.e1 j i (names_second r.e1 r (eq_edge_refl r.e1))) (λ w. u (q ∙ w)))
+  -- Along each edge's list, by the links, ages strictly fall: from a record to the next along its first edge ..
+  pub ages_fall_first : OlderNext (λ k. k.x0) b s
+  ages_fall_first j i = let r : Rec = get_or s.dense j no_rec in next_older r.e0 j i (names_first r.e0 r (eq_edge_refl r.e0)) _ (z.linked j i).next0
+
+  -- .. and along its second
+  pub ages_fall_second : OlderNext (λ k. k.x1) b s
+  ages_fall_second j i = let r : Rec = get_or s.dense j no_rec in next_older r.e1 j i (names_second r.e1 r (eq_edge_refl r.e1)) _ (z.linked j i).next1
 
   -- no two live records share an age
-  pub live_ages_differ : (j k : ℕ) → j < k → k < length s.dense → get_or b.ages (get_or s.dense j no_rec).slot 0 ≢ get_or b.ages (get_or s.dense k no_rec).slot 0
+  pub live_ages_differ : OwnAges b s
   live_ages_differ j k i h e = ages_differ s numbered j k i h (sym (z.ages j (omega arith)) ∙ e ∙ z.ages k h)

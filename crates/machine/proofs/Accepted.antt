@@ -35,16 +35,16 @@ pub record Accepted (n : ℕ) (pt : ℕ → Point) (short many : Bool) (r : List
 abbrev of_checks : (a b m c d e f g : Bool) → ℕ
 of_checks a b m c d e f g = cond a 1 (cond b 2 (cond m 19 (cond c 3 (cond d 4 (cond e 5 (cond f 6 (cond g 7 0)))))))
 
-seven_or_many : (a b m c d e f g : Bool) → (of_checks a b m c d e f g ≤ 7) ⊎ ((of_checks a b m c d e f g ≡ 19) × (m ≡ true))
-seven_or_many true b m c d e f g = inl (omega arith)
-seven_or_many false true m c d e f g = inl (omega arith)
-seven_or_many false false true c d e f g = inr (refl, refl)
-seven_or_many false false false true d e f g = inl (omega arith)
-seven_or_many false false false false true e f g = inl (omega arith)
-seven_or_many false false false false false true f g = inl (omega arith)
-seven_or_many false false false false false false true g = inl (omega arith)
-seven_or_many false false false false false false false true = inl (omega arith)
-seven_or_many false false false false false false false false = inl (omega arith)
+by_checks : (a b m c d e f g : Bool) → (of_checks a b m c d e f g ≤ 7) ⊎ ((of_checks a b m c d e f g ≡ 19) × (m ≡ true))
+by_checks true b m c d e f g = inl (omega arith)
+by_checks false true m c d e f g = inl (omega arith)
+by_checks false false true c d e f g = inr (refl, refl)
+by_checks false false false true d e f g = inl (omega arith)
+by_checks false false false false true e f g = inl (omega arith)
+by_checks false false false false false true f g = inl (omega arith)
+by_checks false false false false false false true g = inl (omega arith)
+by_checks false false false false false false false true = inl (omega arith)
+by_checks false false false false false false false false = inl (omega arith)
 
 module _ (n : ℕ) (pt : ℕ → Point) where
   alike_distinct : none_alike n pt ≡ true → Distinct n pt
@@ -109,8 +109,8 @@ module _ (n : ℕ) (pt : ℕ → Point) where
             )
 
     -- The number is at most 7, or 19 where there are too many picks.
-    pub numbers : (refusal n pt short many r ≤ 7) ⊎ ((refusal n pt short many r ≡ 19) × (many ≡ true))
-    numbers = seven_or_many (ltb 256 n) short many (not (in_range n pt)) (not (each_once n r)) (not (none_alike n pt)) (ltb n 3) (all_below n (is_straight_line n pt r))
+    pub seven_or_nineteen : (refusal n pt short many r ≤ 7) ⊎ ((refusal n pt short many r ≡ 19) × (many ≡ true))
+    seven_or_nineteen = by_checks (ltb 256 n) short many (not (in_range n pt)) (not (each_once n r)) (not (none_alike n pt)) (ltb n 3) (all_below n (is_straight_line n pt r))
 
     -- Demand 3 for every accepted start, every choice of the record that a pick takes, and every list of picks.
     pub demand3_accepted : refusal n pt short many r ≡ 0 → (w : ℕ → State → ℕ) → Picks w → (cs : List ℕ) → Demand3 n pt w cs r

@@ -10,7 +10,8 @@ use lib.Seq.{length-take-le}
 use Rattle.std.proofs.lemmas.List.{take_more, nil_from_length}
 use Rattle.geometry.specs.Plane.{Point}
 use Rattle.index_edge.specs.Edge.{Edge}
-use Rattle.polygon.specs.Ring.{IsRing, index_of}
+use Rattle.polygon.specs.Ring.{IsRing, Indexed, index_of}
+use Rattle.polygon.proofs.Index.{index_is}
 use Rattle.polygon.specs.Edges.{edges}
 use Rattle.intersection_set.specs.Store.{empty, no_rec, chosen}
 use Rattle.intersection_set.specs.Pool.{Pool}
@@ -51,7 +52,7 @@ module _ (n : ℕ) (pt : ℕ → Point) (r : List ℕ) (h : refusal n pt false f
   }
 
   -- before the first pick
-  pub before_picks : {index : List ℕ} {p : Pool} → index ≡ index_of n r → Holds n p (start n pt r) → Running n pt (begin n pt r).now [] r index p
+  before_picks : {index : List ℕ} {p : Pool} → index ≡ index_of n r → Holds n p (start n pt r) → Running n pt (begin n pt r).now [] r index p
   before_picks ex hold = record { few = ok.few; board = ok.board; ready = begin_ready n pt ok.board r ok.ring; young = omega (arith, start_pushes n pt r); same_ring = refl; same_index = ex; holds = hold }
 
 -- the checks of a call pass those of its start, and its picks are few
@@ -59,6 +60,13 @@ pub as_no_picks : (n : ℕ) (pt : ℕ → Point) (r cs : List ℕ) → refusal n
 as_no_picks n pt r cs h =
     let few : length cs ≤ 1000000 = ltb-false 1000000 (length cs) ((accepted n pt false (too_many cs) r).0 h).few_picks in
     (few, sym (few_as_none n pt false r cs few) ∙ h)
+
+-- so a call that passes them runs from the start: l is its ring again, whose records the buffers hold
+pub begun : (n : ℕ) (pt : ℕ → Point) (r cs : List ℕ) → refusal n pt false (too_many cs) r ≡ 0 → {l index : List ℕ} {p : Pool} → l ≡ r → Indexed (length r) r index → Holds n p (start n pt l)
+    → (length cs ≤ 1000000) × Running n pt (begin n pt r).now [] r index p
+begun n pt r cs h {p = p} e indexed holds =
+    let (few, ok) = as_no_picks n pt r cs h in
+    (few, before_picks n pt r ok (index_is indexed (sym (start_ring n pt r ok).len)) (subst (λ l. Holds n p (start n pt l)) e holds))
 
 -- ---- a pick
 -- of few picks there are few before each

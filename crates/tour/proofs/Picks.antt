@@ -12,7 +12,7 @@ use Rattle.algebra.specs.Ranges.{all_true, up_from, up_from_length}
 use Rattle.geometry.specs.Plane.{Point}
 use Rattle.machine.specs.Answer.{Answer, refused, unfinished, delivered, refusal as first_refusal, too_many, answer, call}
 use Rattle.machine.specs.Machine.{after, place}
-use Rattle.machine.proofs.Accepted.{numbers}
+use Rattle.machine.proofs.Accepted.{seven_or_nineteen}
 use Rattle.job.specs.Decimal.{digits, decimal}
 use Rattle.job.specs.Job.{point_count, pick_count, pick_at, refusal, accepted}
 use Rattle.job.specs.Text.{summary, refused_line, stopped_line, loop_lines}
@@ -52,7 +52,7 @@ call_number n pt r cs few k is =
     (λ z. absurd (answered (eqb (length (after n pt place cs r).now.store.dense) 0) _ _ _ _ _ _ (sym (ap (λ t. cond t a (refused number)) (eq-eqb number 0 z.0)) ∙ is)))
     (λ z.
     let same : number ≡ k = ap number_in (sym (ap (λ t. cond t a (refused number)) z.1) ∙ is) in
-    both (numbers n pt false (too_many cs) r) (λ l. omega (arith, l, same)) (λ l. absurd (never (too_many cs) l.1 few)))
+    both (seven_or_nineteen n pt false (too_many cs) r) (λ l. omega (arith, l, same)) (λ l. absurd (never (too_many cs) l.1 few)))
   where
     number_in : Answer → ℕ
     number_in (refused k) = k

@@ -1,6 +1,5 @@
 -- The ages that an accepted call leaves: what the contract of `two_opt_moves` and `resolve_self_intersections` says of them.
 use mathlib.Core.Path.{◌≡◌}
-use mathlib.Core.Logic.{◌≢◌}
 use mathlib.Core.List.{List}
 use Prim.Native.Nat.{ℕ, ◌<◌}
 use native.Mathlib.Omega.{arith}
@@ -11,11 +10,10 @@ use Rattle.geometry.specs.Plane.{Point}
 use Rattle.geometry.specs.Lent.{points}
 use Rattle.intersection_set.specs.Store.{Store, no_rec}
 use Rattle.intersection_set.specs.Numbered.{Numbered}
-use Rattle.intersection_set.specs.Lists.{none}
-use Rattle.intersection_set.specs.Pool.{Buffers, no_ends, links_of}
+use Rattle.intersection_set.specs.Pool.{Buffers}
 use Rattle.intersection_set.specs.Holds.{Each, AgedIn}
-use Rattle.intersection_set.proofs.Ages.{live_ages_differ, ages_fall_first, ages_fall_second}
-use Rattle.machine.specs.Machine.{State, begin, after, place}
+use Rattle.intersection_set.proofs.Ages.{OlderNext, OwnAges, live_ages_differ, ages_fall_first, ages_fall_second}
+use Rattle.machine.specs.Machine.{begin, after, place}
 use Rattle.machine.specs.Answer.{Answer, too_many}
 use Rattle.machine.proofs.Accepted.{accepted, place_picks}
 use Rattle.machine.proofs.Pushes.{ages_fit}
@@ -27,13 +25,10 @@ pub record AgesLeft (b : Buffers) (s : Store) : Type 0 where
   -- each live slot that of its record, which is below 2³²
   pub each : Each (AgedIn b.ages) s.dense
   pub fit : (k : ℕ) → k < length s.dense → get_or b.ages (get_or s.dense k no_rec).slot 0 < 4294967296
-  -- no two the same
-  pub differ : (j k : ℕ) → j < k → k < length s.dense → get_or b.ages (get_or s.dense j no_rec).slot 0 ≢ get_or b.ages (get_or s.dense k no_rec).slot 0
-  -- the next record along an edge's list is older
-  pub along_first : (j : ℕ) → j < length s.dense
-      → let x = (get_or s.dense j no_rec).slot in let y = (get_or (links_of b.heads b.links).next x no_ends).x0 in y ≢ none → get_or b.ages y 0 < get_or b.ages x 0
-  pub along_second : (j : ℕ) → j < length s.dense
-      → let x = (get_or s.dense j no_rec).slot in let y = (get_or (links_of b.heads b.links).next x no_ends).x1 in y ≢ none → get_or b.ages y 0 < get_or b.ages x 0
+  -- no two the same, and the next record along an edge's list is older
+  pub differ : OwnAges b s
+  pub along_first : OlderNext (λ k. k.x0) b s
+  pub along_second : OlderNext (λ k. k.x1) b s
 
 pub entry_ages : {n : ℕ} {x y : List ℤ} {r cs : List ℕ} {was is : Loan} {a : Answer} → Entry n x y r cs was is a → first_refusal n x y r cs was ≡ 0
     → AgesLeft (front n is).records (after n (points x y) place cs r).now.store

@@ -17,7 +17,7 @@ use Rattle.intersection_set.specs.Pool.{lent}
 use Rattle.intersection_set.specs.Within.{Room}
 use Rattle.machine.specs.Machine.{begin, after, place}
 use Rattle.machine.specs.Answer.{refused, unfinished, delivered, finish, answer, refusal, too_many}
-use Rattle.machine.proofs.Accepted.{Accepted, accepted, numbers}
+use Rattle.machine.proofs.Accepted.{Accepted, accepted, seven_or_nineteen}
 use Rattle.untangle.specs.Running.{state_after}
 use Rattle.resolve.specs.Ended.{Counted, last_ring, Ended}
 use Rattle.checks.specs.Checks.{any_below, Of}
@@ -212,7 +212,7 @@ module _ {n : ℕ} {x y : Bor (List ℤ)} (p : Points) (o : Of n x y p) (r cs : 
 
 -- ---- a refusal of the checks is told by its number: only a run is refused with 8
 not_eight : (n : ℕ) (pt : ℕ → Point) (s m : Bool) (r : List ℕ) → refusal n pt s m r ≡ 8 → ⊥
-not_eight n pt s m r h = both (numbers n pt s m r) (λ l. omega (arith, l, h)) (λ l. omega (arith, l.0, h))
+not_eight n pt s m r h = both (seven_or_nineteen n pt s m r) (λ l. omega (arith, l, h)) (λ l. omega (arith, l.0, h))
 
 told_by : (r : Refusal) (ring : List ℕ) → (number_of r ≡ 8 → ⊥) → refusal_of r ring ≡ refused (number_of r)
 told_by (PicksUsedUp moves left) ring h = absurd (h refl)

@@ -1,6 +1,7 @@
 -- `push` meets its contract: the calls' contracts come to the steps of `pool_push`.
 use mathlib.Core.Path.{ap, ◌∙◌}
 use native.Mathlib.Omega.{arith}
+use lib.ListN.{length}
 use Rattle.index_edge.specs.Number.{edge_of}
 use Rattle.intersection_set.specs.Pool.{pair_of, nexts_in}
 use Rattle.intersection_set.specs.Set.{pool_in}
@@ -21,7 +22,7 @@ pub bounds-self-s : goal.bounds-self-s
 bounds-self-s c =
     let a = c.args in
     let t = c.alloc-s.ensures in
-    rw t.same.1.ages (inside_of (slot_in a.self.now.vertices (edge_of a.isect.min) (edge_of a.isect.max) (pool_in a.self.now) c.requires t.slot) c.requires.good.sizes.in_ages)
+    inside_of (slot_in a.self.now.vertices (edge_of a.isect.min) (edge_of a.isect.max) (pool_in a.self.now) c.requires t.slot) (ap length t.same.1.ages ∙ c.requires.good.sizes.in_ages)
 
 pub overflow_add-self : goal.overflow_add-self
 overflow_add-self c =
