@@ -7,7 +7,8 @@ pub mod Size
 -- Polynomial identities by computation
 pub mod Polynomials
 pub mod Identities
--- Tests, tables and counts
+-- Tests, tables, counts and sums
 pub mod Cases
 pub mod Ranges
 pub mod Counting
+pub mod Sums

@@ -1,74 +1,27 @@
 -- Two loops with the same edges in any order have the same feed; so have the loop reversed and the loop started at another position.
 use mathlib.Core.Path.{◌≡◌, refl, sym, ap, subst, ◌∙◌}
 use mathlib.Core.Bool.{Bool}
-use mathlib.Core.List.{List, [], ◌∷◌, ◌++◌, map, append-nil}
+use mathlib.Core.List.{List, [], ◌∷◌, ◌++◌, append-nil}
 use Prim.Native.Nat.{ℕ, zero, suc, ◌+◌, ◌-◌, ◌≤◌, ◌<◌}
 use native.Mathlib.Omega.{arith}
 use lib.Dec.{ltb}
 use lib.ListN.{length, take, drop, take-append-drop}
 use Rattle.algebra.specs.Cases.{both, true_or_false}
-use Rattle.algebra.specs.Ranges.{up_from}
 use Rattle.algebra.specs.Counting.{one, count_p}
+use Rattle.algebra.specs.Sums.{sum_to, sum_front, sum_same, sum_back, sum_over}
 use Rattle.geometry.specs.Plane.{Point}
 use Rattle.index_edge.specs.Edge.{Edge, edge, eq_edge}
 use Rattle.index_edge.proofs.Edges.{eq_edge_true, eq_edge_refl}
 use Rattle.polygon.specs.Ring.{next, prev, at, turned_round}
-use Rattle.polygon.specs.Edges.{edge_at, edges}
+use Rattle.polygon.specs.Edges.{edge_at, edges, edge_sum}
 use Rattle.polygon.proofs.Positions.{next_cases, prev_cases}
 use Rattle.polygon.proofs.RingEdges.{moved_length}
+use Rattle.polygon.proofs.EdgeSums.{sum_edges, count_edges}
 use Rattle.polygon.proofs.WholeReversal.{whole, whole_lt, whole_sum, back_edge}
 use Rattle.job.specs.Feed.{feed_between, edge_feed, feed_to, feed_of, SameEdges, started_at}
 use Rattle.job.proofs.Feeds.{feed_back}
 
--- ---- sums
--- f 0 + f 1 + .. + f (n - 1)
-abbrev sum_to : (ℕ → ℕ) → ℕ → ℕ
-sum_to f zero = 0
-sum_to f (suc n) = sum_to f n + f n
-
-sum_front : (f : ℕ → ℕ) (n : ℕ) → sum_to f (suc n) ≡ f 0 + sum_to (λ i. f (suc i)) n
-sum_front f zero = omega arith
-sum_front f (suc n) = omega (arith, sum_front f n)
-
-sum_same : (f g : ℕ → ℕ) (n : ℕ) → ((i : ℕ) → i < n → f i ≡ g i) → sum_to f n ≡ sum_to g n
-sum_same f g zero h = refl
-sum_same f g (suc n) h = omega (arith, sum_same f g n (λ i l. h i (omega arith)), h n (omega arith))
-
--- the last first
-sum_back : (f : ℕ → ℕ) (n : ℕ) → sum_to (λ i. f (n - suc i)) n ≡ sum_to f n
-sum_back f zero = refl
-sum_back f (suc n) =
-    let first : f (suc n - 1) ≡ f n = ap f (omega arith) in
-    let others = sum_same (λ i. f (suc n - suc (suc i))) (λ i. f (n - suc i)) n (λ i l. ap f (omega arith)) in
-    omega (arith, sum_front (λ i. f (suc n - suc i)) n, first, others, sum_back f n)
-
--- the sum of f over a list
-abbrev sum_over : {A : Type 0} → (A → ℕ) → List A → ℕ
-sum_over f [] = 0
-sum_over f (x ∷ l) = f x + sum_over f l
-
-sum_table : {A : Type 0} (f : A → ℕ) (g : ℕ → A) (s n : ℕ) → sum_over f (map g (up_from s n)) ≡ sum_to (λ i. f (g (s + i))) n
-sum_table f g s zero = refl
-sum_table f g s (suc n) =
-    let a : f (g s) ≡ f (g (s + 0)) = ap (λ k. f (g k)) (omega arith) in
-    let b = sum_same (λ i. f (g (suc s + i))) (λ i. f (g (s + suc i))) n (λ i l. ap (λ k. f (g k)) (omega arith)) in
-    omega (arith, a, b, sum_table f g (suc s) n, sum_front (λ i. f (g (s + i))) n)
-
--- ---- sums over the edges of a ring of n positions
-abbrev edge_sum : (Edge → ℕ) → ℕ → List ℕ → ℕ
-edge_sum f n r = sum_to (λ i. f (edge_at n r i)) n
-
-sum_edges : (f : Edge → ℕ) (n : ℕ) (r : List ℕ) → sum_over f (edges n r) ≡ edge_sum f n r
-sum_edges f n r =
-    sum_table f (edge_at n r) 0 n ∙ sum_same (λ i. f (edge_at n r (0 + i))) (λ i. f (edge_at n r i)) n (λ i l. ap (λ k. f (edge_at n r k)) (omega arith))
-
-count_sum : {A : Type 0} (p : A → Bool) (l : List A) → count_p p l ≡ sum_over (λ x. one (p x)) l
-count_sum p [] = refl
-count_sum p (x ∷ l) = omega (arith, count_sum p l)
-
-count_edges : (p : Edge → Bool) (n : ℕ) (r : List ℕ) → count_p p (edges n r) ≡ edge_sum (λ e. one (p e)) n r
-count_edges p n r = count_sum p (edges n r) ∙ sum_edges (λ e. one (p e)) n r
-
+-- ---- sums over the edges
 -- equal sums for every f are equal counts
 same_edges : (r s : List ℕ) → ((f : Edge → ℕ) → edge_sum f (length r) r ≡ edge_sum f (length s) s) → SameEdges r s
 same_edges r s h e = count_edges (eq_edge e) (length r) r ∙ h (λ g. one (eq_edge e g)) ∙ sym (count_edges (eq_edge e) (length s) s)

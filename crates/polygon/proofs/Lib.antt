@@ -1,5 +1,6 @@
 pub mod Positions
 pub mod RingEdges
+pub mod EdgeSums
 pub mod FirstFault
 pub mod EachOnce
 pub mod InPlace
