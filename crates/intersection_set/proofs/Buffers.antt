@@ -4,7 +4,7 @@ use Rattle.intersection_set.specs.Set.{SameBuffers}
 use Rattle.intersection_set.specs.declared.intersection_set.IndexIntersectionSet.{IndexIntersectionSet}
 
 pub same_start : (a : IndexIntersectionSet) → SameBuffers a a
-same_start a = record { vertices = refl; heads = refl; ends = refl; links = refl; ages = refl; dense = refl; reverse = refl; free = refl }
+same_start a = record { vertices = refl; heads = refl; ends = refl; links = refl; ages = refl; dense = refl; reverse = refl; free = refl; tangles = refl }
 
 pub same_then : {a b c : IndexIntersectionSet} → SameBuffers a b → SameBuffers b c → SameBuffers a c
 same_then p q =
@@ -17,4 +17,5 @@ same_then p q =
       dense = q.dense ∙ p.dense;
       reverse = q.reverse ∙ p.reverse;
       free = q.free ∙ p.free;
+      tangles = q.tangles ∙ p.tangles;
     }

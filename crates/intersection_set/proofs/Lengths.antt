@@ -15,7 +15,7 @@ use Rattle.algebra.specs.Cases.{both, eq_cases}
 use Rattle.index_edge.specs.Edge.{Edge, eq_edge}
 use Rattle.index_edge.proofs.Edges.{eq_edge_refl, eq_edge_sym}
 use Rattle.intersection_set.specs.Lists.{none, head_place}
-use Rattle.intersection_set.specs.Pool.{Taken, Ends, ends, no_ends, Pair, pair, no_pair, Links, Order, Pool, counts_of, take_slot, dense_push, dense_remove, end0, end1, put_end, set_end, head_at, link_front, set_head, unlink_from, put_edges, put_ends, clear_ends, pool_push, pool_remove, pool_remove_all}
+use Rattle.intersection_set.specs.Pool.{Taken, Ends, ends, no_ends, Pair, pair, no_pair, Links, Order, Pool, counts_of, take_slot, dense_push, dense_remove, end0, end1, put_end, set_end, head_at, link_front, set_head, unlink_from, raised, lowered, put_edges, put_ends, clear_ends, pool_push, pool_remove, pool_remove_all}
 use Rattle.intersection_set.specs.Within.{Proper, TakeOk, AppendOk, EndOk, HeadOk, UnlinkOk, Sized, Good, PushOk, RemoveOk, Drained}
 use Rattle.intersection_set.specs.declared.utils.Counts.{Counts}
 use Rattle.intersection_set.proofs.HeadPlaces.{placed, head_below}
@@ -160,6 +160,7 @@ pub record SameSize (p q : Pool) : Type 0 where
   pub dense : length p.order.dense ≡ length q.order.dense
   pub reverse : length p.order.reverse ≡ length q.order.reverse
   pub free : length p.free ≡ length q.free
+  pub tangles : length p.tangles ≡ length q.tangles
 
 pub sized_same : {n : ℕ} {p q : Pool} → SameSize q p → Sized n p → Sized n q
 sized_same z g =
@@ -172,10 +173,11 @@ sized_same z g =
       in_dense = rw z.dense g.in_dense;
       in_reverse = rw z.reverse g.in_reverse;
       in_free = rw z.free g.in_free;
+      in_tangles = rw z.tangles g.in_tangles;
     }
 
 pub sizes_push : (n : ℕ) (e0 e1 : Edge) (p : Pool) → SameSize (pool_push n e0 e1 p) p
-unfolding pool_push link_front put_edges clear_ends dense_push
+unfolding pool_push link_front put_edges clear_ends dense_push raised
 sizes_push n e0 e1 p =
     record {
       heads = simp length-set;
@@ -186,10 +188,11 @@ sizes_push n e0 e1 p =
       dense = simp length-set;
       reverse = simp length-set;
       free = refl;
+      tangles = simp length-set;
     }
 
 pub sizes_remove : (n s : ℕ) (p : Pool) → SameSize (pool_remove n s p) p
-unfolding pool_remove unlink_from dense_remove
+unfolding pool_remove unlink_from dense_remove lowered
 sizes_remove n s p =
     record {
       heads = simp len_head;
@@ -200,6 +203,7 @@ sizes_remove n s p =
       dense = simp length-set;
       reverse = simp length-set;
       free = length-set p.free p.counts.freed s;
+      tangles = simp length-set;
     }
 
 -- ---- the steps of the code, put together
@@ -218,6 +222,7 @@ module _ (n : ℕ) (e0 e1 : Edge) (p : Pool) (ok : PushOk n e0 e1 p) where
       → (y2 ≡ set_end m1 e1 s v y1) × (x2 ≡ x1)
       → {f : List ℕ} → f ≡ p.free
       → {a : List ℕ} → a ≡ p.ages
+      → {k : List ℕ} → k ≡ raised n e1 (raised n e0 p.tangles)
       → ◌≡◌ {A = Pool}
       (record {
         edges = v;
@@ -225,13 +230,14 @@ module _ (n : ℕ) (e0 e1 : Edge) (p : Pool) (ok : PushOk n e0 e1 p) where
         ages = set a s c.pushes;
         order = o;
         free = f;
+        tangles = k;
         counts = counts_of c.live c.grown c.freed (c.pushes + 1);
       })
       (pool_push n e0 e1 p)
   unfolding pool_push link_front
-  push_steps es ec eo t1 t2 w s1 s2 ef ea =
+  push_steps es ec eo t1 t2 w s1 s2 ef ea ek =
       let hs = slot_lt n p ok.good ok.room in
-      rw (s2.0, s2.1, s1.0, s1.1, w.1, w.2, w.0, t2.0, t2.1, t1.0, t1.1, eo, ec, ef, ea, es, next_once n e0 e1 p _ ok hs (head_at n e0 p.links.heads) (head_at n e1 (set p.links.heads (head_place n e0) (take_slot p.counts p.free).slot)))
+      rw (s2.0, s2.1, s1.0, s1.1, w.1, w.2, w.0, t2.0, t2.1, t1.0, t1.1, eo, ec, ef, ea, ek, es, next_once n e0 e1 p _ ok hs (head_at n e0 p.links.heads) (head_at n e1 (set p.links.heads (head_place n e0) (take_slot p.counts p.free).slot)))
 
 -- what the code reads of the record that goes
 pub record ReadAt (p : Pool) (s : ℕ) (e0 e1 : Edge) (n0 p0 n1 p1 : ℕ) : Type 0 where
@@ -249,16 +255,17 @@ pub read_at : (p : Pool) (s : ℕ) {e0 e1 : Edge} {n0 p0 n1 p1 : ℕ}
 read_at p s e l = record { edge0 = e.0; edge1 = e.1; next0 = l.0; prev0 = l.1; next1 = l.2; prev1 = l.3 }
 
 module _ (n s : ℕ) (p : Pool) {e0 e1 : Edge} {n0 p0 n1 p1 : ℕ} (z : ReadAt p s e0 e1 n0 p0 n1 p1) where
-  pub remove_steps : {o : Order} {f a : List ℕ} {c : Counts} {l1 l2 : Links}
+  pub remove_steps : {o : Order} {f a k : List ℕ} {c : Counts} {l1 l2 : Links}
       → l1 ≡ unlink_from n e0 n0 p0 p.edges p.links
       → l2 ≡ unlink_from n e1 n1 p1 p.edges l1
       → o ≡ dense_remove s p.counts.live p.order
       → f ≡ set p.free p.counts.freed s
       → c ≡ counts_of (p.counts.live - 1) p.counts.grown (p.counts.freed + 1) p.counts.pushes
       → a ≡ p.ages
-      → ◌≡◌ {A = Pool} (record { edges = p.edges; links = l2; ages = a; order = o; free = f; counts = c }) (pool_remove n s p)
+      → k ≡ lowered n e1 (lowered n e0 p.tangles)
+      → ◌≡◌ {A = Pool} (record { edges = p.edges; links = l2; ages = a; order = o; free = f; tangles = k; counts = c }) (pool_remove n s p)
   unfolding pool_remove
-  remove_steps el1 el2 eo ef ec ea = rw (el2, el1, eo, ef, ec, ea, z.edge1, z.edge0, z.next0, z.prev0, z.next1, z.prev1)
+  remove_steps el1 el2 eo ef ec ea ek = rw (el2, el1, eo, ef, ec, ea, ek, z.edge1, z.edge0, z.next0, z.prev0, z.next1, z.prev1)
 
 -- ---- a removal stays inside: an unlinking leaves what another needs
 unlink_still : {n : ℕ} {e : Edge} {x v : ℕ} {w : List Pair} {l : Links} (f : Edge) (y z : ℕ) → UnlinkOk n e x v w l → UnlinkOk n e x v w (unlink_from n f y z w l)

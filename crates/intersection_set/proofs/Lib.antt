@@ -7,6 +7,7 @@ pub mod Draining
 pub mod HeadPlaces
 pub mod Words
 pub mod Lengths
+pub mod Tangles
 pub mod ReadOff
 pub mod Alike
 pub mod Views

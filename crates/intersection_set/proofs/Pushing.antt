@@ -15,10 +15,10 @@ use Rattle.algebra.specs.Counting.{one, count_p, one_le, count_at, count_snoc, l
 use Rattle.index_edge.specs.Edge.{Edge, eq_edge, lt_edge}
 use Rattle.index_edge.proofs.Edges.{eq_edge_refl, eq_edge_sym, lt_edge_other}
 use Rattle.intersection_set.specs.Store as plain
-use Rattle.intersection_set.specs.Store.{Rec, Store, no_rec, rec_for, slot_for, rest, grown}
-use Rattle.intersection_set.specs.Lists.{none, slot_of}
+use Rattle.intersection_set.specs.Store.{Rec, Store, no_rec, rec_for, slot_for, rest, grown, names}
+use Rattle.intersection_set.specs.Lists.{none, slot_of, tangle}
 use Rattle.intersection_set.specs.Pool as pool
-use Rattle.intersection_set.specs.Pool.{Ends, ends, no_ends, Pair, pair, no_pair, link_front, Pool, end0, end1, take_slot, put_edges, clear_ends, dense_push, pool_push, push_at, lesser, greater}
+use Rattle.intersection_set.specs.Pool.{Ends, ends, no_ends, Pair, pair, no_pair, link_front, Pool, end0, end1, take_slot, put_edges, clear_ends, dense_push, tangle_at, raised, pool_push, push_at, lesser, greater}
 use Rattle.intersection_set.specs.Within.{Proper, Sized, PushOk}
 use Rattle.intersection_set.specs.Holds.{Each, Sound, HeldIn, AgedIn, Stack, InOrder, Placed, Stored, Holds, MayPush}
 use Rattle.intersection_set.proofs.Slots.{numbered_kept, free_below}
@@ -26,6 +26,7 @@ use Rattle.intersection_set.proofs.Linked.{head_in}
 use Rattle.intersection_set.proofs.Draining.{reverse_push}
 use Rattle.intersection_set.proofs.Chains.{Links, Chain, cond_fun, either, Rep, chain_agree, upd, upd_edge, front, push_links, rep_push}
 use Rattle.intersection_set.proofs.HeadPlaces.{placed}
+use Rattle.intersection_set.proofs.Tangles.{raise_at, length_raised, names_two, can_raise}
 use Rattle.intersection_set.proofs.Alike.{Same, same_then, front_same}
 use Rattle.intersection_set.proofs.Views.{view, At, link_is}
 use Rattle.intersection_set.proofs.Lengths.{inside_of, cap_small, taken_pushes, len_ends, sizes_push, sized_same}
@@ -210,7 +211,15 @@ module _ (n : ℕ) (p : Pool) (s : Store) (h : Stored n p s) (rep : lists n p s)
   pub push_ok : s.pushes + 1 < 4294967296 → PushOk n (new_rec a b s).e0 (new_rec a b s).e1 p
   push_ok young =
       let sr : Sound n (new_rec a b s) = new_sound n a b s pa pb ab in
-      record { good = holds_good n p s h rep; edge0 = sr.first; edge1 = sr.second; differ = differ sr; room = omega (arith, h.live); young = omega (arith, young, h.pushed) }
+      record {
+        good = holds_good n p s h rep;
+        edge0 = sr.first;
+        edge1 = sr.second;
+        differ = differ sr;
+        room = omega (arith, h.live);
+        young = omega (arith, young, h.pushed);
+        raises = record { first = can_raise h sr.first; second = can_raise h sr.second; apart = differ sr };
+      }
 
   sized : Sized n (push_at n (new_rec a b s).e0 (new_rec a b s).e1 (take_slot p.counts p.free).slot (take_slot p.counts p.free).counts p)
   unfolding pool_push
@@ -239,6 +248,22 @@ module _ (n : ℕ) (p : Pool) (s : Store) (h : Stored n p s) (rep : lists n p s)
       (λ j i. get_or-set_other p.ages r.slot (get_or s.dense j no_rec).slot v 0 (new_slot j i) ∙ h.aged j i)
       (get_or-set_same p.ages r.slot v 0 (inside_of took.below h.sizes.in_ages) ∙ e)
 
+  -- one record more names each of its two edges
+  tangled_push : (g : Edge) → Placed n g → tangle_at n g (raised n (new_rec a b s).e1 (raised n (new_rec a b s).e0 p.tangles)) ≡ tangle g (plain.push a b s)
+  tangled_push g pg =
+      let r : Rec = new_rec a b s in
+      let sr : Sound n r = new_sound n a b s pa pb ab in
+      let l : List ℕ = raised n r.e0 p.tangles in
+      let long : length l ≡ n * (n - 1) = length_raised n r.e0 p.tangles ∙ h.sizes.in_tangles in
+      omega (
+        arith,
+        raise_at n l r.e1 g (omega (arith, long)) (placed sr.second) pg,
+        raise_at n p.tangles r.e0 g (omega (arith, h.sizes.in_tangles)) (placed sr.first) pg,
+        h.tangled g pg,
+        count_snoc (names g) s.dense r,
+        names_two g r (differ sr),
+      )
+
   at_slot : Stored n (push_at n (new_rec a b s).e0 (new_rec a b s).e1 (new_rec a b s).slot (take_slot p.counts p.free).counts p) (plain.push a b s)
   unfolding put_edges dense_push
   at_slot =
@@ -259,6 +284,7 @@ module _ (n : ℕ) (p : Pool) (s : Store) (h : Stored n p s) (rep : lists n p s)
         held = each_push (HeldIn (wrote r p.edges)) s.dense r (wrote_held n p s h rep r xm new_slot) (wrote_here n p s h rep r xm new_slot);
         pushed = omega (arith, taken_pushes p.counts p.free, h.pushed);
         aged = aged_push (taken_pushes p.counts p.free ∙ h.pushed);
+        tangled = tangled_push;
       }
 
   lists_at_slot : lists n (push_at n (new_rec a b s).e0 (new_rec a b s).e1 (new_rec a b s).slot (take_slot p.counts p.free).counts p) (plain.push a b s)

@@ -10,20 +10,22 @@ use lib.Dec.{eqb}
 use lib.ListN.{length, get_or, set}
 use lib.Seq.{get_or-set_same, get_or-set_other}
 use Rattle.algebra.specs.Cases.{both, true_or_false}
+use Rattle.algebra.specs.Counting.{count_at}
 use Rattle.index_edge.specs.Edge.{Edge, eq_edge}
 use Rattle.index_edge.proofs.Edges.{eq_edge_refl, eq_edge_sym}
 use Rattle.intersection_set.specs.Store as plain
 use Rattle.intersection_set.specs.Store.{Rec, Store, Found, nothing, at_place, no_rec, swap_remove, newest_from, remove_found, remove_all_fuel, names}
-use Rattle.intersection_set.specs.Lists.{none, slot_of}
+use Rattle.intersection_set.specs.Lists.{none, slot_of, tangle}
 use Rattle.intersection_set.specs.Pool as pool
-use Rattle.intersection_set.specs.Pool.{no_ends, Pair, Pool, end0, end1, dense_remove, unlink_from, pool_remove, pool_remove_all, head_at}
+use Rattle.intersection_set.specs.Pool.{no_ends, Pair, Pool, end0, end1, dense_remove, unlink_from, tangle_at, lowered, pool_remove, pool_remove_all, head_at}
 use Rattle.intersection_set.specs.Within.{Proper, RemoveOk, HeadOk, Drained}
 use Rattle.intersection_set.specs.Holds.{Sound, HeldIn, AgedIn, InOrder, Stack, Placed, Stored, Holds}
-use Rattle.intersection_set.proofs.Records.{Newest, newest_is}
+use Rattle.intersection_set.proofs.Records.{count_swap, Newest, newest_is}
 use Rattle.intersection_set.proofs.Slots.{numbered_kept, slot_below, swap_remove_length}
 use Rattle.intersection_set.proofs.Draining.{stays, reverse_remove, swap_other, swap_here}
 use Rattle.intersection_set.proofs.Chains.{Links, Rep, cond_fun, names_first, names_second, upd_edge, unlink, remove_links, rep_remove, slot_found, head_newest}
 use Rattle.intersection_set.proofs.HeadPlaces.{placed}
+use Rattle.intersection_set.proofs.Tangles.{lower_at, length_lowered, names_two, can_lower}
 use Rattle.intersection_set.proofs.Alike.{Same, same_then, unlink_same}
 use Rattle.intersection_set.proofs.Views.{view, At, unlink_is}
 use Rattle.intersection_set.proofs.Lengths.{inside_of, cap_small, end_ok, head_ok, len_ends, len_head, sizes_remove, sized_same, live_remove, drained_next, all_none, all_suc, all_some}
@@ -100,6 +102,10 @@ module _ (n : ℕ) (p : Pool) (s : Store) (h : Stored n p s) (rep : lists n p s)
   last_is : get_or p.order.dense (p.counts.live - 1) 0 ≡ (get_or s.dense (length s.dense - 1) no_rec).slot
   last_is = ap (λ (m : ℕ). get_or p.order.dense (m - 1) 0) h.live ∙ h.order (length s.dense - 1) (omega arith)
 
+  -- the record is one of those that name its edges
+  named : (g : Edge) → names g rec ≡ true → 0 < tangle g s
+  named g is = omega (arith, count_at (names g) s.dense j no_rec i is)
+
   pub remove_ok : RemoveOk n rec.slot p
   remove_ok =
       let w : rec.slot < n * (n - 1) = slot_lt in
@@ -126,6 +132,11 @@ module _ (n : ℕ) (p : Pool) (s : Store) (h : Stored n p s) (rep : lists n p s)
           head = head_ok h.small o1 z.in_heads;
           first = end_ok _ (n * (n - 1)) (λ u. (near_p1 u).below) z.in_edges z.in_next;
           second = end_ok _ (n * (n - 1)) (λ u. (near_n1 u).below) z.in_edges z.in_prev;
+        };
+        lowers = record {
+          first = can_lower h o0 (rw (h.held j i).0 (named rec.e0 (names_first rec.e0 rec (eq_edge_refl rec.e0))));
+          second = can_lower h o1 (rw (h.held j i).1 (named rec.e1 (names_second rec.e1 rec (eq_edge_refl rec.e1))));
+          apart = rw ((h.held j i).0, (h.held j i).1) (differ (h.sound j i));
         };
       }
 
@@ -188,6 +199,21 @@ module _ (n : ℕ) (p : Pool) (s : Store) (h : Stored n p s) (rep : lists n p s)
       ∙ h.order m (omega arith)
       ∙ sym (ap slot_of (swap_other d j m i z q)))
 
+  -- one record less names each of its two edges
+  tangled_remove : {e f : Edge} → e ≡ rec.e0 → f ≡ rec.e1 → (g : Edge) → Placed n g → tangle_at n g (lowered n f (lowered n e p.tangles)) ≡ tangle g left
+  tangled_remove {e} {f} ee ef g pg =
+      let l : List ℕ = lowered n rec.e0 p.tangles in
+      let long : length l ≡ n * (n - 1) = length_lowered n rec.e0 p.tangles ∙ h.sizes.in_tangles in
+      rw (ee, ef)
+      (omega (
+        arith,
+        lower_at n l rec.e1 g (omega (arith, long)) (placed (h.sound j i).second) pg,
+        lower_at n p.tangles rec.e0 g (omega (arith, h.sizes.in_tangles)) (placed (h.sound j i).first) pg,
+        h.tangled g pg,
+        count_swap (names g) s.dense j i,
+        names_two g rec (differ (h.sound j i)),
+      ))
+
   stored_remove : Stored n (pool_remove n rec.slot p) left
   unfolding pool_remove dense_remove
   stored_remove =
@@ -206,6 +232,7 @@ module _ (n : ℕ) (p : Pool) (s : Store) (h : Stored n p s) (rep : lists n p s)
         held = each_remove (HeldIn p.edges) s.dense j i h.held;
         pushed = h.pushed;
         aged = each_remove (AgedIn p.ages) s.dense j i h.aged;
+        tangled = tangled_remove (h.held j i).0 (h.held j i).1;
       }
 
   lists_removed : lists n (pool_remove n rec.slot p) left

@@ -1,4 +1,4 @@
--- The start: whatever the other buffers hold, once every head is none they hold the empty store.
+-- The start: whatever the other buffers hold, once every head is none and every count 0 they hold the empty store.
 use mathlib.Core.Path.{◌≡◌}
 use Prim.Native.Nat.{ℕ}
 use lib.ListN.{length-map, length-replicate}
@@ -19,11 +19,12 @@ sized_lent b c z =
       in_dense = z.in_dense;
       in_reverse = z.in_reverse;
       in_free = z.in_free;
+      in_tangles = z.in_tangles;
     }
 
--- and so it has once the heads are cleared
+-- and so it has once heads and counts are cleared
 pub sized_cleared : {n : ℕ} (b : Buffers) {d : Buffers} (c : Counts) → d ≡ cleared b → Room n b → Sized n (pool_of d c)
 sized_cleared b c e z =
     rw e
     (sized_lent (cleared b) c
-    (record { in_heads = rw length-replicate z.in_heads; in_ends = z.in_ends; in_links = z.in_links; in_ages = z.in_ages; in_dense = z.in_dense; in_reverse = z.in_reverse; in_free = z.in_free }))
+    (record { in_heads = rw length-replicate z.in_heads; in_ends = z.in_ends; in_links = z.in_links; in_ages = z.in_ages; in_dense = z.in_dense; in_reverse = z.in_reverse; in_free = z.in_free; in_tangles = rw length-replicate z.in_tangles }))

@@ -3,8 +3,8 @@ use Rattle.std.specs.Prelude.{◌≡◌, true, false, List, [], ◌∷◌, map, 
 use Rattle.index_edge.specs.Edge.{Edge, eq_edge, lt_edge}
 use Rattle.intersection_set.specs.Store.{Rec, Store, no_rec, grown}
 use Rattle.intersection_set.specs.Numbered.{Numbered}
-use Rattle.intersection_set.specs.Lists.{slot_of, head_place, head_of, next_of, prev_of, reverse_of, stack_of, heads_of}
-use Rattle.intersection_set.specs.Pool.{no_ends, Pair, Links, Pool, Buffers, edges_of, links_of, end0, end1}
+use Rattle.intersection_set.specs.Lists.{slot_of, head_place, head_of, next_of, prev_of, reverse_of, stack_of, heads_of, tangle, tangles_of}
+use Rattle.intersection_set.specs.Pool.{no_ends, Pair, Links, Pool, Buffers, edges_of, links_of, end0, end1, tangle_at}
 use Rattle.intersection_set.specs.Within.{Proper, Sized}
 
 -- a property of each record
@@ -48,7 +48,7 @@ Stack q (a ∷ l) = (get_or q (length l) 0 ≡ a) × Stack q l
 abbrev pub Placed : ℕ → Edge → Type 0
 Placed n e = (e.hi < n) × (suc e.lo < n)
 
--- the pool p of n points holds the records of s with their ages, their order and the free slots, and counts the pushes
+-- the pool p of n points holds the records of s with their ages, their order and the free slots, counts the pushes, and the records that name each edge
 pub record Stored (n : ℕ) (p : Pool) (s : Store) : Type 0 where
   pub small : n ≤ 256
   pub sizes : Sized n p
@@ -64,6 +64,7 @@ pub record Stored (n : ℕ) (p : Pool) (s : Store) : Type 0 where
   pub held : Each (HeldIn p.edges) s.dense
   pub pushed : p.counts.pushes ≡ s.pushes
   pub aged : Each (AgedIn p.ages) s.dense
+  pub tangled : (e : Edge) → Placed n e → tangle_at n e p.tangles ≡ tangle e s
 
 -- and every list: heads in full, and each live record's links
 pub record Holds (n : ℕ) (p : Pool) (s : Store) : Type 0 where
@@ -71,7 +72,7 @@ pub record Holds (n : ℕ) (p : Pool) (s : Store) : Type 0 where
   pub heads : (e : Edge) → Placed n e → get_or p.links.heads (head_place n e) 0 ≡ head_of e s
   pub linked : Each (LinkedIn p.links s) s.dense
 
--- What a reader of the buffers sees of a store, by equations: heads in full, and of the others the live entries.
+-- What a reader of the buffers sees of a store, by equations: heads and tangles in full, and of the others the live entries.
 pub record Shows (n : ℕ) (b : Buffers) (s : Store) : Type 0 where
   pub heads : b.heads ≡ heads_of n s
   pub dense : take (length s.dense) b.dense ≡ map slot_of s.dense
@@ -80,6 +81,7 @@ pub record Shows (n : ℕ) (b : Buffers) (s : Store) : Type 0 where
   pub edges : Each (HeldIn (edges_of b.ends)) s.dense
   pub linked : Each (LinkedIn (links_of b.heads b.links) s) s.dense
   pub ages : Each (AgedIn b.ages) s.dense
+  pub tangles : b.tangles ≡ tangles_of n s
 
 -- what a push of a and b asks of the store
 pub record MayPush (n : ℕ) (a b : Edge) (s : Store) : Type 0 where

@@ -1,5 +1,6 @@
 -- What a store says of each edge's list and of each slot: heads, links and places, by computation.
 use Rattle.std.specs.Prelude.{cond, List, [], ◌∷◌, ◌++◌, map, ℕ, suc, ◌+◌, ◌-◌, ◌*◌, ◌/◌, ◌%◌, eqb, ltb}
+use Rattle.algebra.specs.Counting.{count_p}
 use Rattle.algebra.specs.Ranges.{up_from}
 use Rattle.index_edge.specs.Edge.{Edge}
 use Rattle.intersection_set.specs.Store.{Rec, Store, names}
@@ -72,3 +73,11 @@ pair_at n i = record { lo = i / n; hi = i % n }
 -- n×(n-1) places; those of no edge have no slot
 abbrev pub heads_of : ℕ → Store → List ℕ
 heads_of n s = map (λ i. cond (ltb (i / n) (i % n)) (head_of (pair_at n i) s) none) (up_from 0 (n * (n - 1)))
+
+-- ---- how many records name each edge
+abbrev pub tangle : Edge → Store → ℕ
+tangle e s = count_p (names e) s.dense
+
+-- in full, placed as the heads are; 0 at the places of no edge
+abbrev pub tangles_of : ℕ → Store → List ℕ
+tangles_of n s = map (λ i. cond (ltb (i / n) (i % n)) (tangle (pair_at n i) s) 0) (up_from 0 (n * (n - 1)))

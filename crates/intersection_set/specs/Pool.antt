@@ -69,6 +69,7 @@ pub record Pool : Type 0 where
   pub ages : List ℕ
   pub order : Order
   pub free : List ℕ
+  pub tangles : List ℕ
   pub counts : Counts
 
 -- the lent buffers; the counts stand in none of them
@@ -80,10 +81,11 @@ pub record Buffers : Type 0 where
   pub dense : List ℕ
   pub reverse : List ℕ
   pub free : List ℕ
+  pub tangles : List ℕ
 
-abbrev pub lent : List ℕ → List ℕ → List ℕ → List ℕ → List ℕ → List ℕ → List ℕ → Buffers
-lent heads ends links ages dense reverse free =
-    record { heads = heads; ends = ends; links = links; ages = ages; dense = dense; reverse = reverse; free = free }
+abbrev pub lent : List ℕ → List ℕ → List ℕ → List ℕ → List ℕ → List ℕ → List ℕ → List ℕ → Buffers
+lent heads ends links ages dense reverse free tangles =
+    record { heads = heads; ends = ends; links = links; ages = ages; dense = dense; reverse = reverse; free = free; tangles = tangles }
 
 abbrev pub pool_of : Buffers → Counts → Pool
 pool_of b c =
@@ -93,6 +95,7 @@ pool_of b c =
       ages = b.ages;
       order = order b.dense b.reverse;
       free = b.free;
+      tangles = b.tangles;
       counts = c;
     }
 
@@ -156,6 +159,17 @@ set_head n e next prev heads = cond (eqb prev none) (set heads (head_place n e) 
 unfoldable pub unlink_from : ℕ → Edge → ℕ → ℕ → List Pair → Links → Links
 unlink_from n e next prev w l = record { heads = set_head n e next prev l.heads; next = set_end prev e next w l.next; prev = set_end next e prev w l.prev }
 
+-- ---- how many records name an edge
+abbrev pub tangle_at : ℕ → Edge → List ℕ → ℕ
+tangle_at n e tangles = get_or tangles (head_place n e) 0
+
+-- one more, and one less
+unfoldable pub raised : ℕ → Edge → List ℕ → List ℕ
+raised n e tangles = set tangles (head_place n e) (tangle_at n e tangles + 1)
+
+unfoldable pub lowered : ℕ → Edge → List ℕ → List ℕ
+lowered n e tangles = set tangles (head_place n e) (tangle_at n e tangles - 1)
+
 -- ---- push
 unfoldable pub put_edges : ℕ → Edge → Edge → List Pair → List Pair
 put_edges s e0 e1 v = set v s (pair e0 e1)
@@ -179,6 +193,7 @@ push_at n e0 e1 s c p =
       ages = set p.ages s c.pushes;
       order = dense_push s p.counts.live p.order;
       free = p.free;
+      tangles = raised n e1 (raised n e0 p.tangles);
       counts = counts_of c.live c.grown c.freed (c.pushes + 1);
     }
 
@@ -207,6 +222,7 @@ pool_remove n s p =
       ages = p.ages;
       order = dense_remove s p.counts.live p.order;
       free = set p.free p.counts.freed s;
+      tangles = lowered n (end1 p.edges s) (lowered n (end0 p.edges s) p.tangles);
       counts = counts_of (p.counts.live - 1) p.counts.grown (p.counts.freed + 1) p.counts.pushes;
     }
 

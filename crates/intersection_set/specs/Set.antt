@@ -8,7 +8,7 @@ abbrev pub order_in : IndexIntersectionSet → Order
 order_in s = order s.dense.now s.reverse.now
 
 abbrev pub buffers_in : IndexIntersectionSet → Buffers
-buffers_in s = lent s.heads.now s.ends.now s.links.now s.ages.now s.dense.now s.reverse.now s.free.now
+buffers_in s = lent s.heads.now s.ends.now s.links.now s.ages.now s.dense.now s.reverse.now s.free.now s.tangles.now
 
 abbrev pub pool_in : IndexIntersectionSet → Pool
 pool_in s = pool_of (buffers_in s) s.counts
@@ -23,14 +23,16 @@ pub record SameBuffers (a b : IndexIntersectionSet) : Type 0 where
   pub dense : b.dense.ghost_name ≡ a.dense.ghost_name
   pub reverse : b.reverse.ghost_name ≡ a.reverse.ghost_name
   pub free : b.free.ghost_name ≡ a.free.ghost_name
+  pub tangles : b.tangles.ghost_name ≡ a.tangles.ghost_name
 
--- The records, the edges' lists and the ages are as they were.
+-- The records, the edges' lists and counts and the ages are as they were.
 pub record SameLists (a b : IndexIntersectionSet) : Type 0 where
   pub heads : b.heads.now ≡ a.heads.now
   pub ends : b.ends.now ≡ a.ends.now
   pub links : b.links.now ≡ a.links.now
   pub ages : b.ages.now ≡ a.ages.now
+  pub tangles : b.tangles.now ≡ a.tangles.now
 
--- every head is none, the rest as it was
+-- every head is none and every count 0, the rest as it was
 abbrev pub cleared : Buffers → Buffers
-cleared b = record b { heads = replicate (length b.heads) none }
+cleared b = record b { heads = replicate (length b.heads) none; tangles = replicate (length b.tangles) 0 }

@@ -2,7 +2,7 @@
 use Rattle.std.specs.Prelude.{◌≡◌, ◌≢◌, false, List, ℕ, ◌+◌, ◌-◌, ◌*◌, ◌<◌, ◌≤◌, length, get_or}
 use Rattle.index_edge.specs.Edge.{Edge, eq_edge}
 use Rattle.intersection_set.specs.Lists.{none, head_place}
-use Rattle.intersection_set.specs.Pool.{Ends, no_ends, Pair, Links, Order, Pool, Buffers, end0, end1, head_at, pool_remove}
+use Rattle.intersection_set.specs.Pool.{Ends, no_ends, Pair, Links, Order, Pool, Buffers, end0, end1, head_at, tangle_at, pool_remove}
 use Rattle.intersection_set.specs.declared.utils.Counts.{Counts}
 
 -- an edge between two of n points
@@ -44,6 +44,26 @@ pub record UnlinkOk (n : ℕ) (e : Edge) (next prev : ℕ) (w : List Pair) (l : 
   pub first : EndOk prev w l.next
   pub second : EndOk next w l.prev
 
+-- one record more can be counted for an edge, and one less
+pub record RaiseOk (n : ℕ) (e : Edge) (tangles : List ℕ) : Type 0 where
+  pub head : HeadOk n e tangles
+  pub few : tangle_at n e tangles < 65535
+
+pub record LowerOk (n : ℕ) (e : Edge) (tangles : List ℕ) : Type 0 where
+  pub head : HeadOk n e tangles
+  pub some : 0 < tangle_at n e tangles
+
+-- the same for two edges, one after the other
+pub record RaiseBoth (n : ℕ) (e f : Edge) (tangles : List ℕ) : Type 0 where
+  pub first : RaiseOk n e tangles
+  pub second : RaiseOk n f tangles
+  pub apart : eq_edge e f ≡ false
+
+pub record LowerBoth (n : ℕ) (e f : Edge) (tangles : List ℕ) : Type 0 where
+  pub first : LowerOk n e tangles
+  pub second : LowerOk n f tangles
+  pub apart : eq_edge e f ≡ false
+
 -- ---- the whole pool
 -- the lists of a pool of n points have n×(n-1) entries each
 pub record Sized (n : ℕ) (p : Pool) : Type 0 where
@@ -55,6 +75,7 @@ pub record Sized (n : ℕ) (p : Pool) : Type 0 where
   pub in_dense : length p.order.dense ≡ n * (n - 1)
   pub in_reverse : length p.order.reverse ≡ n * (n - 1)
   pub in_free : length p.free ≡ n * (n - 1)
+  pub in_tangles : length p.tangles ≡ n * (n - 1)
 
 -- what is lent of the buffers: n×(n-1) entries of each
 pub record Room (n : ℕ) (b : Buffers) : Type 0 where
@@ -65,6 +86,7 @@ pub record Room (n : ℕ) (b : Buffers) : Type 0 where
   pub in_dense : length b.dense ≡ n * (n - 1)
   pub in_reverse : length b.reverse ≡ n * (n - 1)
   pub in_free : length b.free ≡ n * (n - 1)
+  pub in_tangles : length b.tangles ≡ n * (n - 1)
 
 -- what a pool of n points keeps, as far as its indices go
 pub record Good (n : ℕ) (p : Pool) : Type 0 where
@@ -82,6 +104,7 @@ pub record PushOk (n : ℕ) (e0 e1 : Edge) (p : Pool) : Type 0 where
   pub differ : eq_edge e0 e1 ≡ false
   pub room : p.counts.live < n * (n - 1)
   pub young : p.counts.pushes + 1 < 4294967296
+  pub raises : RaiseBoth n e0 e1 p.tangles
 
 pub record RemoveOk (n s : ℕ) (p : Pool) : Type 0 where
   pub in_edges : s < length p.edges
@@ -90,6 +113,7 @@ pub record RemoveOk (n s : ℕ) (p : Pool) : Type 0 where
   pub drops : DropOk s p.counts.live p.order
   pub unlink0 : UnlinkOk n (end0 p.edges s) (get_or p.links.next s no_ends).x0 (get_or p.links.prev s no_ends).x0 p.edges p.links
   pub unlink1 : UnlinkOk n (end1 p.edges s) (get_or p.links.next s no_ends).x1 (get_or p.links.prev s no_ends).x1 p.edges p.links
+  pub lowers : LowerBoth n (end0 p.edges s) (end1 p.edges s) p.tangles
 
 -- the records of e can be removed, newest first, until there is none
 pub data Drained (n : ℕ) (e : Edge) : Pool → Type 0 where

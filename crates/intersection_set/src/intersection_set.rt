@@ -2,16 +2,16 @@
 //
 // A record is two words, indexed by its slot, each of four 16-bit numbers, the first lowest. `ends` has the points of its edges: edge0's min
 // and max, edge1's min and max. `links` has its links along their lists: next and previous along edge0, next and previous along edge1.
-// `ages` has its age, the count of pushes made before it. `heads` has each edge's newest record. The buffers are lent, and of parts of fixed size, as the C
-// interface has them.
+// `ages` has its age, the count of pushes made before it. `heads` has each edge's newest record, and `tangles`, at the same places, how many records name the
+// edge. The buffers are lent, and of parts of fixed size, as the C interface has them.
 ghost use Rattle.std.specs.Prelude.{◌≡◌, not, map, ℕ, ◌<◌, ◌≤◌, length, get_or, set, eqb};
 ghost use Rattle.index_edge.specs.Edge.{Edge};
 ghost use Rattle.index_edge.specs.Number.{edge_of};
 ghost use Rattle.intersection_set.specs.Store.{Store, no_rec, empty, push as pushed, remove_all as all_removed, chosen};
 ghost use Rattle.intersection_set.specs.Lists.{none, head_place};
 ghost use Rattle.intersection_set.specs.Words.{packed, part0, part1, part2, part3, unit_of, with_link};
-ghost use Rattle.intersection_set.specs.Pool.{Pool, edges_of, links_in, nexts_in, prevs_in, links_of, no_ends, counts_of, end0, end1, head_at, set_end, set_head, unlink_from, put_edges, put_ends, clear_ends, pool_push, pool_remove, lesser, greater};
-ghost use Rattle.intersection_set.specs.Within.{Proper, EndOk, HeadOk, UnlinkOk, Sized, PushOk, RemoveOk};
+ghost use Rattle.intersection_set.specs.Pool.{Pool, edges_of, links_in, nexts_in, prevs_in, links_of, no_ends, counts_of, end0, end1, head_at, set_end, set_head, unlink_from, raised, lowered, put_edges, put_ends, clear_ends, pool_push, pool_remove, lesser, greater};
+ghost use Rattle.intersection_set.specs.Within.{Proper, EndOk, HeadOk, UnlinkOk, RaiseOk, LowerOk, RaiseBoth, LowerBoth, Sized, PushOk, RemoveOk};
 ghost use Rattle.intersection_set.specs.Holds.{Holds, MayPush};
 ghost use Rattle.intersection_set.specs.Stored.{stored, goes_back, Slot};
 ghost use Rattle.intersection_set.specs.Set.{pool_in, buffers_in, SameBuffers, cleared};
@@ -38,8 +38,8 @@ impl IndexIntersection {
     }
 }
 
-// Where an edge's head stands (`Index<IndexEdge>`).
-fn place(n: usize, e: IndexEdge) -> usize
+// Where an edge's head stands (`Index<IndexEdge>`), and its count.
+pub fn place(n: usize, e: IndexEdge) -> usize
     requires { (n ≤ 256) × Proper n (edge_of e) }
     ensures { result ≡ head_place n (edge_of e) }
 {
@@ -235,6 +235,42 @@ fn unlink(
     set_link(Link::Prev, gone.next, e, gone.prev, links, ends);
 }
 
+// One record more names an edge.
+#[tactic(auto, unfolding(crate::specs::Pool::raised))]
+fn raise(n: usize, e: IndexEdge, tangles: &mut [u16])
+    requires { RaiseOk n (edge_of e) tangles.old }
+    ensures { tangles.new ≡ raised n (edge_of e) tangles.old }
+{
+    tangles[place(n, e)] += 1;
+}
+
+// One record less.
+#[tactic(auto, unfolding(crate::specs::Pool::lowered))]
+fn lower(n: usize, e: IndexEdge, tangles: &mut [u16])
+    requires { LowerOk n (edge_of e) tangles.old }
+    ensures { tangles.new ≡ lowered n (edge_of e) tangles.old }
+{
+    tangles[place(n, e)] -= 1;
+}
+
+// A record more names each of its edges.
+fn raise_both(n: usize, isect: IndexIntersection, tangles: &mut [u16])
+    requires { RaiseBoth n (edge_of isect.min) (edge_of isect.max) tangles.old }
+    ensures { tangles.new ≡ raised n (edge_of isect.max) (raised n (edge_of isect.min) tangles.old) }
+{
+    raise(n, isect.min, tangles);
+    raise(n, isect.max, tangles);
+}
+
+// A record less.
+fn lower_both(n: usize, isect: IndexIntersection, tangles: &mut [u16])
+    requires { LowerBoth n (edge_of isect.min) (edge_of isect.max) tangles.old }
+    ensures { tangles.new ≡ lowered n (edge_of isect.max) (lowered n (edge_of isect.min) tangles.old) }
+{
+    lower(n, isect.min, tangles);
+    lower(n, isect.max, tangles);
+}
+
 // The records of a ring of `vertices` points, in lent buffers of n×(n-1) entries each. What they hold is a store of records (`Holds`). The slots' buffers
 // lie flat beside the others: with a struct for them inside this one, a caller's proof does not learn what its buffers hold afterwards. Nor is the store a
 // field: a ghost field is a proposition.
@@ -248,18 +284,20 @@ pub struct IndexIntersectionSet<'a> {
     pub dense: &'a mut [u16],
     pub reverse: &'a mut [u16],
     pub free: &'a mut [u16],
+    pub tangles: &'a mut [u16],
     pub counts: Counts,
 }
 
 impl<'a> IndexIntersectionSet<'a> {
-    // No records (`new`): every head is none, whatever the other buffers hold.
+    // No records (`new`): every head is none and every count 0, whatever the other buffers hold.
     pub fn clear(&mut self)
         ensures same { SameBuffers self.old self.new }
-        ensures heads { buffers_in self.new ≡ cleared (buffers_in self.old) }
+        ensures cleared { buffers_in self.new ≡ cleared (buffers_in self.old) }
         ensures counts { self.new.counts ≡ counts_of 0 0 0 0 }
         ensures empty { (n : ℕ) → n ≤ 256 → Sized n (pool_in self.new) → Holds n (pool_in self.new) empty }
     {
         self.heads.fill(NONE);
+        self.tangles.fill(0);
         self.counts = Counts {
             live: 0,
             grown: 0,
@@ -288,7 +326,7 @@ impl<'a> IndexIntersectionSet<'a> {
         SparseIndex::read(self.heads[place(self.vertices, e)])
     }
 
-    // Records two edges that meet, with its age: in a slot of its own, in front of both edges' lists.
+    // Records two edges that meet, with its age: in a slot of its own, in front of both edges' lists. It counts for both.
     pub fn push(&mut self, isect: IndexIntersection)
         requires { PushOk self.old.vertices (edge_of isect.min) (edge_of isect.max) (pool_in self.old) }
         ensures same { SameBuffers self.old self.new }
@@ -308,9 +346,10 @@ impl<'a> IndexIntersectionSet<'a> {
         put_record(s, isect, next0, next1, ends, links);
         set_link(Link::Prev, next0, isect.min, Some(s), links, ends);
         set_link(Link::Prev, next1, isect.max, Some(s), links, ends);
+        raise_both(n, isect, self.tangles);
     }
 
-    // Removes a record: out of both edges' lists and the dense order, and its slot is free.
+    // Removes a record: out of both edges' lists and counts and the dense order, and its slot is free.
     fn remove(&mut self, s: SparseIndex)
         requires { RemoveOk self.old.vertices s.0 (pool_in self.old) }
         ensures same { SameBuffers self.old self.new }
@@ -327,6 +366,7 @@ impl<'a> IndexIntersectionSet<'a> {
         let (along_min, along_max) = neighbours_at(links, i);
         unlink(n, isect.min, along_min, heads, links, ends);
         unlink(n, isect.max, along_max, heads, links, ends);
+        lower_both(n, isect, self.tangles);
     }
 
     // Removes every record of an edge, newest first, until its list has none.

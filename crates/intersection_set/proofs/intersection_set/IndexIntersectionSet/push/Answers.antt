@@ -68,6 +68,9 @@ set_link-requires-2 c =
     let h = rw k.heads at c.take_head-next0.ensures.taken in
     (old_ok_2 n e0 e1 p _ c.requires s w.0 w.2 h.0 h.1 c.take_head-next1.ensures.taken.0 c.set_link.ensures.0, c.take_head-next1.ensures.slot)
 
+pub raise_both-requires : goal.raise_both-requires
+raise_both-requires c = rw c.alloc-s.ensures.same.1.tangles c.requires.raises
+
 pub returns-clause-pushed : goal.returns-clause-pushed
 returns-clause-pushed c =
     let a = c.args in
@@ -75,7 +78,9 @@ returns-clause-pushed c =
     let k = t.same.1 in
     let w = rw (k.ends, k.links) at c.put_record.ensures in
     let h = rw k.heads at c.take_head-next0.ensures.taken in
-    push_steps a.self.now.vertices (edge_of a.isect.min) (edge_of a.isect.max) (pool_in a.self.now) c.requires t.slot t.counts t.order h c.take_head-next1.ensures.taken w c.set_link.ensures c.set_link-2.ensures t.free k.ages
+    let n = a.self.now.vertices in
+    let u = rw k.tangles at c.raise_both.ensures in
+    push_steps n (edge_of a.isect.min) (edge_of a.isect.max) (pool_in a.self.now) c.requires t.slot t.counts t.order h c.take_head-next1.ensures.taken w c.set_link.ensures c.set_link-2.ensures t.free k.ages u
 
 pub returns-clause-holds : goal.returns-clause-holds
 returns-clause-holds c =
@@ -86,5 +91,6 @@ returns-clause-holds c =
     let h = rw k.heads at c.take_head-next0.ensures.taken in
     let p = pool_in a.self.now in
     let n = a.self.now.vertices in
-    let steps = push_steps n (edge_of a.isect.min) (edge_of a.isect.max) p c.requires t.slot t.counts t.order h c.take_head-next1.ensures.taken w c.set_link.ensures c.set_link-2.ensures t.free k.ages in
+    let u = rw k.tangles at c.raise_both.ensures in
+    let steps = push_steps n (edge_of a.isect.min) (edge_of a.isect.max) p c.requires t.slot t.counts t.order h c.take_head-next1.ensures.taken w c.set_link.ensures c.set_link-2.ensures t.free k.ages u in
     λ e f s ee ef held may. push_holds n p s held e f ee ef may steps
