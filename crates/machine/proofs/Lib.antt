@@ -23,4 +23,5 @@ pub mod Moments
 pub mod Demand3Holds
 pub mod Accepted
 pub mod Ready
+pub mod Tangles
 pub mod Boards

@@ -1,12 +1,14 @@
 -- Boards with their answers, as rows: document 01's starred ones, and six that catch mistakes which those miss.
 -- `rows_hold` (proofs/Boards) proves them all together by computation.
-use Rattle.std.specs.Prelude.{Bool, true, false, not, ◌&&◌, cond, List, [], ◌∷◌, ℕ, ℤ, pos, negsuc, eqb, length, get_or}
+use Rattle.std.specs.Prelude.{Bool, true, false, not, ◌&&◌, cond, List, [], ◌∷◌, map, ℕ, ℤ, pos, negsuc, eqb, length, get_or}
 use Rattle.algebra.specs.Ranges.{up_from}
 use Rattle.geometry.specs.Plane.{Point}
 use Rattle.geometry.specs.Segment.{meets}
 use Rattle.index_edge.specs.Edge.{Edge, edge, eq_edge}
+use Rattle.polygon.specs.Edges.{edges}
 use Rattle.intersection_set.specs.Store.{Rec, counted}
-use Rattle.machine.specs.Machine.{Laid, place, after}
+use Rattle.intersection_set.specs.Lists.{tangle}
+use Rattle.machine.specs.Machine.{State, Laid, place, after}
 use Rattle.machine.specs.Answer.{Answer, refused, unfinished, delivered, call}
 
 -- What a row says of the points, the starting ring 0, 1, 2, .. and the picks.
@@ -17,6 +19,8 @@ pub data Row : Type 0 where
   hoisted : List Point → List ℕ → List Bool → Row
   -- how many records name two edges after the picks
   named : List Point → List ℕ → Edge → Edge → ℕ → Row
+  -- how many records name the edge at each ring position after the picks
+  tangles : List Point → List ℕ → List ℕ → Row
   -- the edges of the records after the picks, in dense order
   dense : List Point → List ℕ → List Edge → Row
   -- whether a a' meets b b'
@@ -58,6 +62,10 @@ abbrev both_edges : List Rec → List Edge
 both_edges [] = []
 both_edges (q ∷ l) = q.e0 ∷ q.e1 ∷ both_edges l
 
+-- how many records name each edge of the ring, by position
+abbrev by_position : ℕ → State → List ℕ
+by_position n s = map (λ e. tangle e s.store) (edges n s.ring)
+
 module _ (ps : List Point) where
   abbrev first : List ℕ
   first = up_from 0 (length ps)
@@ -66,6 +74,7 @@ abbrev pub holds : Row → Bool
 holds (tour ps cs a) = same (call (length ps) (board ps) false (first ps) cs) a
 holds (hoisted ps cs l) = same_list same_bit (kinds (after (length ps) (board ps) place cs (first ps)).log) l
 holds (named ps cs e f k) = eqb (counted e f (after (length ps) (board ps) place cs (first ps)).now.store.dense) k
+holds (tangles ps cs l) = same_list eqb (by_position (length ps) (after (length ps) (board ps) place cs (first ps)).now) l
 holds (dense ps cs l) = same_list eq_edge (both_edges (after (length ps) (board ps) place cs (first ps)).now.store.dense) l
 holds (meeting a a' b b' t) = same_bit (meets a a' b b') t
 
@@ -124,6 +133,7 @@ rows =
     ∷ tour seven [] (unfinished (0 ∷ 1 ∷ 2 ∷ 3 ∷ 4 ∷ 5 ∷ 6 ∷ []) 0 6)
     ∷ tour seven (0 ∷ []) (unfinished (0 ∷ 4 ∷ 1 ∷ 2 ∷ 3 ∷ 5 ∷ 6 ∷ []) 1 4)
     ∷ named seven (0 ∷ []) (edge 1 4) (edge 3 5) 2
+    ∷ tangles seven (0 ∷ []) (0 ∷ 3 ∷ 1 ∷ 0 ∷ 3 ∷ 1 ∷ 0 ∷ [])
     ∷ meeting (p (pos 0) (pos 0)) (p (pos 4) (pos 0)) (p (pos 2) (pos 0)) (p (pos 2) (pos 3)) true
     ∷ meeting (p (pos 0) (pos 0)) (p (pos 4) (pos 0)) (p (pos 4) (pos 0)) (p (pos 2) (pos 0)) true
     ∷ meeting (p (pos 0) (pos 0)) (p (pos 2) (pos 0)) (p (pos 2) (pos 0)) (p (pos 4) (pos 0)) false
