@@ -64,9 +64,10 @@ pub extern "C" fn tour_two_opt_moves(
     dense: &mut [u16],
     reverse: &mut [u16],
     free: &mut [u16],
+    tangles: &mut [u16],
 ) -> TourAnswer
-    ensures { let was = loan ring.old index.old (lent heads.old ends.old links.old ages.old dense.old reverse.old free.old) in
-        let is = loan ring.new index.new (lent heads.new ends.new links.new ages.new dense.new reverse.new free.new) in
+    ensures { let was = loan ring.old index.old (lent heads.old ends.old links.old ages.old dense.old reverse.old free.old tangles.old) in
+        let is = loan ring.new index.new (lent heads.new ends.new links.new ages.new dense.new reverse.new free.new tangles.new) in
         ((a : Told) × (result ≡ in_numbers a) × Entry n x.now y.now (up_from 0 n) picks.now was is a) }
 {
     let mut work = Workspace {
@@ -79,6 +80,7 @@ pub extern "C" fn tour_two_opt_moves(
         dense,
         reverse,
         free,
+        tangles,
     };
     two_opt_moves(n, x, y, picks, &mut work).into()
 }
@@ -99,9 +101,10 @@ pub extern "C" fn tour_resolve_self_intersections(
     dense: &mut [u16],
     reverse: &mut [u16],
     free: &mut [u16],
+    tangles: &mut [u16],
 ) -> TourAnswer
-    ensures { let was = loan ring.old index.old (lent heads.old ends.old links.old ages.old dense.old reverse.old free.old) in
-        let is = loan ring.new index.new (lent heads.new ends.new links.new ages.new dense.new reverse.new free.new) in
+    ensures { let was = loan ring.old index.old (lent heads.old ends.old links.old ages.old dense.old reverse.old free.old tangles.old) in
+        let is = loan ring.new index.new (lent heads.new ends.new links.new ages.new dense.new reverse.new free.new tangles.new) in
         ((a : Told) × (result ≡ in_numbers a) × Entry n x.now y.now (take n ring.old) picks.now was is a) }
 {
     let mut work = Workspace {
@@ -114,6 +117,7 @@ pub extern "C" fn tour_resolve_self_intersections(
         dense,
         reverse,
         free,
+        tangles,
     };
     resolve_self_intersections(n, x, y, picks, &mut work).into()
 }

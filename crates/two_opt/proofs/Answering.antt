@@ -59,12 +59,13 @@ enough n x y l h = record {
   in_dense = records_long 4 (omega arith);
   in_reverse = records_long 5 (omega arith);
   in_free = records_long 6 (omega arith);
+  in_tangles = records_long 7 (omega arith);
 }
   where
     ring_long : (i : ℕ) → i < 4 → n ≤ get_or (ring_sized x y l) i 0
     ring_long = long n (ring_sized x y l) (or_parts (any_below n (ring_sized x y l)) (any_below (n * (n - 1)) (record_sized l.records)) h).0
 
-    records_long : (i : ℕ) → i < 7 → n * (n - 1) ≤ get_or (record_sized l.records) i 0
+    records_long : (i : ℕ) → i < 8 → n * (n - 1) ≤ get_or (record_sized l.records) i 0
     records_long = long (n * (n - 1)) (record_sized l.records) (or_parts (any_below n (ring_sized x y l)) (any_below (n * (n - 1)) (record_sized l.records)) h).1
 
 -- ---- a part from the start on, lent and written
@@ -85,6 +86,7 @@ exact_room n m l e h = record {
   in_dense = part_length m l.records.dense e h.in_dense;
   in_reverse = part_length m l.records.reverse e h.in_reverse;
   in_free = part_length m l.records.free e h.in_free;
+  in_tangles = part_length m l.records.tangles e h.in_tangles;
 }
 
 -- what was lent, with these parts written to its front
@@ -100,7 +102,8 @@ written n m was parts =
     (c.ages ++ drop m b.ages)
     (c.dense ++ drop m b.dense)
     (c.reverse ++ drop m b.reverse)
-    (c.free ++ drop m b.free))
+    (c.free ++ drop m b.free)
+    (c.tangles ++ drop m b.tangles))
 
 module _ (n m : ℕ) (was parts : Loan) (em : m ≡ n * (n - 1)) (lr : length parts.ring ≡ n) (li : length parts.index ≡ n) (lb : Room n parts.records) where
   front_written : front n (written n m was parts) ≡ parts
@@ -109,14 +112,14 @@ module _ (n m : ℕ) (was parts : Loan) (em : m ≡ n * (n - 1)) (lr : length pa
       let b = was.records in
       let c = parts.records in
       λ i. loan (take_at parts.ring (drop n was.ring) n lr i) (take_at parts.index (drop n was.index) n li i)
-      (lent (take_at c.heads (drop m b.heads) k lb.in_heads i) (take_at c.ends (drop m b.ends) k lb.in_ends i) (take_at c.links (drop m b.links) k lb.in_links i) (take_at c.ages (drop m b.ages) k lb.in_ages i) (take_at c.dense (drop m b.dense) k lb.in_dense i) (take_at c.reverse (drop m b.reverse) k lb.in_reverse i) (take_at c.free (drop m b.free) k lb.in_free i))
+      (lent (take_at c.heads (drop m b.heads) k lb.in_heads i) (take_at c.ends (drop m b.ends) k lb.in_ends i) (take_at c.links (drop m b.links) k lb.in_links i) (take_at c.ages (drop m b.ages) k lb.in_ages i) (take_at c.dense (drop m b.dense) k lb.in_dense i) (take_at c.reverse (drop m b.reverse) k lb.in_reverse i) (take_at c.free (drop m b.free) k lb.in_free i) (take_at c.tangles (drop m b.tangles) k lb.in_tangles i))
 
   past_written : past n (written n m was parts) ≡ past n was
   past_written =
       let b = was.records in
       let c = parts.records in
       λ i. loan (past_part n parts.ring was.ring refl lr i) (past_part n parts.index was.index refl li i)
-      (lent (past_part m c.heads b.heads em lb.in_heads i) (past_part m c.ends b.ends em lb.in_ends i) (past_part m c.links b.links em lb.in_links i) (past_part m c.ages b.ages em lb.in_ages i) (past_part m c.dense b.dense em lb.in_dense i) (past_part m c.reverse b.reverse em lb.in_reverse i) (past_part m c.free b.free em lb.in_free i))
+      (lent (past_part m c.heads b.heads em lb.in_heads i) (past_part m c.ends b.ends em lb.in_ends i) (past_part m c.links b.links em lb.in_links i) (past_part m c.ages b.ages em lb.in_ages i) (past_part m c.dense b.dense em lb.in_dense i) (past_part m c.reverse b.reverse em lb.in_reverse i) (past_part m c.free b.free em lb.in_free i) (past_part m c.tangles b.tangles em lb.in_tangles i))
 
   -- a run over the parts is one over what is lent
   pub ran_parts : (pt : ℕ → Point) (cs : List ℕ) {r : Resolved}
@@ -146,6 +149,7 @@ starting n l r {ring} {index} e lr is li inverse =
         in_dense = e.in_dense;
         in_reverse = e.in_reverse;
         in_free = e.in_free;
+        in_tangles = e.in_tangles;
       };
       beyond = λ i. loan (past_part n ring l.ring refl lring i) (past_part n index l.index refl li i) (each (drop (n * (n - 1))) l.records);
     }

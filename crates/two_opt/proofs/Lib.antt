@@ -1,3 +1,4 @@
 pub mod Answering
 pub mod Demand3Entries
 pub mod AgesLeft
+pub mod TanglesLeft

@@ -31,7 +31,7 @@ abbrev pub loan : List ℕ → List ℕ → Buffers → Loan
 loan ring index records = record { ring = ring; index = index; records = records }
 
 abbrev pub each : (List ℕ → List ℕ) → Buffers → Buffers
-each f b = lent (f b.heads) (f b.ends) (f b.links) (f b.ages) (f b.dense) (f b.reverse) (f b.free)
+each f b = lent (f b.heads) (f b.ends) (f b.links) (f b.ages) (f b.dense) (f b.reverse) (f b.free) (f b.tangles)
 
 -- the entries that check 2 asks for: n of ring and index, n×(n-1) of each buffer of the records
 abbrev pub front : ℕ → Loan → Loan
@@ -46,7 +46,7 @@ abbrev pub ring_sized : List ℤ → List ℤ → Loan → List ℕ
 ring_sized x y l = length x ∷ length y ∷ length l.ring ∷ length l.index ∷ []
 
 abbrev pub record_sized : Buffers → List ℕ
-record_sized b = length b.heads ∷ length b.ends ∷ length b.links ∷ length b.ages ∷ length b.dense ∷ length b.reverse ∷ length b.free ∷ []
+record_sized b = length b.heads ∷ length b.ends ∷ length b.links ∷ length b.ages ∷ length b.dense ∷ length b.reverse ∷ length b.free ∷ length b.tangles ∷ []
 
 abbrev pub short_of : ℕ → List ℤ → List ℤ → Loan → Bool
 short_of n x y l = short n (ring_sized x y l) (record_sized l.records)

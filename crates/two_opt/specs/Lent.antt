@@ -11,7 +11,7 @@ use Rattle.two_opt.specs.declared.workspace.Workspace.{Workspace}
 
 -- what its slices hold
 abbrev pub loan_of : Workspace → Loan
-loan_of w = loan w.ring.now w.index.now (lent w.heads.now w.ends.now w.links.now w.ages.now w.dense.now w.reverse.now w.free.now)
+loan_of w = loan w.ring.now w.index.now (lent w.heads.now w.ends.now w.links.now w.ages.now w.dense.now w.reverse.now w.free.now w.tangles.now)
 
 -- the lengths of what is lent
 abbrev pub sizes : Loan → List ℕ
@@ -28,6 +28,7 @@ pub record SameWorkspace (v w : Workspace) : Type 0 where
   pub dense : w.dense.ghost_name ≡ v.dense.ghost_name
   pub reverse : w.reverse.ghost_name ≡ v.reverse.ghost_name
   pub free : w.free.ghost_name ≡ v.free.ghost_name
+  pub tangles : w.tangles.ghost_name ≡ v.tangles.ghost_name
   pub sizes : sizes (loan_of w) ≡ sizes (loan_of v)
 
 -- what is lent is enough for n points
@@ -41,6 +42,7 @@ pub record Enough (n : ℕ) (l : Loan) : Type 0 where
   pub in_dense : n * (n - 1) ≤ length l.records.dense
   pub in_reverse : n * (n - 1) ≤ length l.records.reverse
   pub in_free : n * (n - 1) ≤ length l.records.free
+  pub in_tangles : n * (n - 1) ≤ length l.records.tangles
 
 -- The first n entries of ring and index hold the ring r and its index. The rest is as it was, and still enough.
 pub record Starting (n : ℕ) (r : List ℕ) (was is : Loan) : Type 0 where

@@ -29,6 +29,7 @@ pub struct Workspace<'a> {
     pub dense: &'a mut [u16],
     pub reverse: &'a mut [u16],
     pub free: &'a mut [u16],
+    pub tangles: &'a mut [u16],
 }
 
 // A run from the ring, of which this is the index, its records in these buffers. It is lent exactly what check 2 asks for, so that no entry past it can be
@@ -45,13 +46,14 @@ fn resolve_in(
     dense: &mut [u16],
     reverse: &mut [u16],
     free: &mut [u16],
+    tangles: &mut [u16],
 ) -> Resolved
-    requires { let given = lent heads.old ends.old links.old ages.old dense.old reverse.old free.old in
+    requires { let given = lent heads.old ends.old links.old ages.old dense.old reverse.old free.old tangles.old in
         Indexed points.n ring.old index.old × (refusal points.n (spots points) false (too_many picks.now) ring.old ≡ 0) × Room points.n given }
     ensures { let n = points.entry.n in
         let pt = spots points.entry in
         let first = (starting n pt ring.old).now in
-        let is = lent heads.new ends.new links.new ages.new dense.new reverse.new free.new in
+        let is = lent heads.new ends.new links.new ages.new dense.new reverse.new free.new tangles.new in
         Counted n pt first picks.now result.moves result.cross result.left × Ended n pt first picks.now ring.new index.new is }
 {
     let counts = Counts {
@@ -69,6 +71,7 @@ fn resolve_in(
         dense,
         reverse,
         free,
+        tangles,
         counts,
     };
     let mut polygon = Polygon { ring, index };
@@ -91,6 +94,7 @@ impl<'a> Workspace<'a> {
             self.dense.len(),
             self.reverse.len(),
             self.free.len(),
+            self.tangles.len(),
         ];
         let short = too_short(n, &of_points, &of_records);
         let many = too_many(picks);
@@ -150,6 +154,7 @@ impl<'a> Workspace<'a> {
             &mut self.dense[..size],
             &mut self.reverse[..size],
             &mut self.free[..size],
+            &mut self.tangles[..size],
         )
     }
 }

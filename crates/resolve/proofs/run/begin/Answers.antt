@@ -16,7 +16,7 @@ pairs-requires c =
       q.0,
       start_ring n pt r q.1,
       start_board n pt r q.1,
-      (_, e.empty n (start_few n pt r q.1) (sized_cleared (buffers_in c.args.set.now) _ e.heads q.2), start_room n pt r q.1),
+      (_, e.empty n (start_few n pt r q.1) (sized_cleared (buffers_in c.args.set.now) _ e.cleared q.2), start_room n pt r q.1),
     )
 
 pub returns-clause-holds : goal.returns-clause-holds
@@ -26,4 +26,4 @@ returns-clause-holds c =
     let pt = spots c.args.points in
     let r = c.args.ring.now in
     let e = c.clear.ensures in
-    (rw e.same.vertices at c.pairs.ensures.holds) _ (e.empty n (start_few n pt r q.1) (sized_cleared (buffers_in c.args.set.now) _ e.heads q.2)) (start_room n pt r q.1)
+    (rw e.same.vertices at c.pairs.ensures.holds) _ (e.empty n (start_few n pt r q.1) (sized_cleared (buffers_in c.args.set.now) _ e.cleared q.2)) (start_room n pt r q.1)

@@ -28,10 +28,10 @@ returns-clause-ran c =
     let size = c.record_size-size in
     let new = c.resolve_in.new in
     let same = c.resolve_in.auto in
-    let parts : Loan = loan new.ring new.index (lent new.heads new.ends new.links new.ages new.dense new.reverse new.free) in
+    let parts : Loan = loan new.ring new.index (lent new.heads new.ends new.links new.ages new.dense new.reverse new.free new.tangles) in
     let room = exact_room n size.result was size.ensures enough in
     ran_parts n size.result was parts size.ensures
     (same.ring ∙ part_length n was.ring refl enough.in_ring)
     (same.index ∙ part_length n was.index refl enough.in_index)
-    (record { in_heads = same.heads ∙ room.in_heads; in_ends = same.ends ∙ room.in_ends; in_links = same.links ∙ room.in_links; in_ages = same.ages ∙ room.in_ages; in_dense = same.dense ∙ room.in_dense; in_reverse = same.reverse ∙ room.in_reverse; in_free = same.free ∙ room.in_free })
+    (record { in_heads = same.heads ∙ room.in_heads; in_ends = same.ends ∙ room.in_ends; in_links = same.links ∙ room.in_links; in_ages = same.ages ∙ room.in_ages; in_dense = same.dense ∙ room.in_dense; in_reverse = same.reverse ∙ room.in_reverse; in_free = same.free ∙ room.in_free; in_tangles = same.tangles ∙ room.in_tangles })
     (spots a.points) a.picks.now c.resolve_in.ensures
