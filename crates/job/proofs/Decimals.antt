@@ -36,6 +36,20 @@ pub length_decimal : (n : ℕ) → length (decimal n) ≤ 20
 unfolding decimal
 length_decimal n = length_digits 20 n
 
+-- a number of at most k + 1 digits
+length_below : (j k n : ℕ) → n < 10 ^ suc k → length (digits j n) ≤ suc k
+unfolding digits
+length_below zero k n h = omega arith
+length_below (suc j) zero n h = grind arith
+length_below (suc j) (suc k) n h =
+    let p : n < 10 ^ suc k * 10 = rw (pow-suc 10 (suc k)) at h in
+    let q : n / 10 < 10 ^ suc k = omega arith in
+    grind (arith, length_below j k (n / 10) q, length-append)
+
+pub length_u16 : (n : ℕ) → n < 65536 → length (decimal n) ≤ 5
+unfolding decimal
+length_u16 n h = length_below 20 4 n (let p : n < 10 ^ 5 = omega arith in p)
+
 pub length_integer : (z : ℤ) → length (integer z) ≤ 21
 unfolding integer
 length_integer (pos n) = omega (arith, length_decimal n)

@@ -121,11 +121,6 @@ thirteen_shares job nx ny np h =
     let share : shares_bytes (point_start job) (8 * point_count job) (pick_start job) (4 * pick_count job) ≡ true = grind arith in
     (shares_decides (point_start job) (8 * point_count job) (pick_start job) (4 * pick_count job)).0 share
 
--- no job is refused as a run is that used up its picks
-pub never_eight : (job : List ℕ) (nx ny np : ℕ) → refusal job nx ny np ≡ 8 → ⊥
-unfolding refusal decide
-never_eight job nx ny np h = grind arith
-
 -- the reader's numbers end with 13
 pub up_to_thirteen : (job : List ℕ) (nx ny np : ℕ) → refusal job nx ny np ≤ 13
 unfolding refusal decide

@@ -11,4 +11,6 @@ pub mod Ascii
 pub mod Decimal
 pub mod Feed
 pub mod Loops
+pub mod Tallied
+pub mod Tallies
 pub mod Text

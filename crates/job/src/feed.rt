@@ -17,22 +17,11 @@ pub struct Loop<'a> {
 }
 
 impl<'a> Loop<'a> {
-    ghost use Rattle.std.specs.Prelude.{◌≡◌, ◌<◌, [], length};
+    ghost use Rattle.std.specs.Prelude.{◌≡◌, ◌<◌, length};
     ghost use Rattle.geometry.specs.Lent.{spot};
     ghost use Rattle.polygon.specs.Ring.{at};
     ghost use Rattle.job.specs.Feed.{edge_feed, feed_of};
     ghost use Rattle.job.specs.Loops.{spots};
-
-    // The loop with no position.
-    pub fn empty() -> Loop<'static>
-        ensures { result.ring.now ≡ [] }
-    {
-        Loop {
-            x: &[],
-            y: &[],
-            ring: &[],
-        }
-    }
 
     // The point at position i.
     pub fn at(self, i: usize) -> NearPoint

@@ -5,5 +5,6 @@ pub mod encoder;
 pub mod feed;
 pub mod reader;
 pub mod report;
+pub mod tangled;
 pub mod word;
 pub mod writer;

@@ -1,23 +1,39 @@
 // The text of an answer.
-ghost use Rattle.std.specs.Prelude.{◌++◌, ◌+◌, ◌*◌, ◌≤◌, length};
+ghost use Rattle.std.specs.Prelude.{◌≡◌, ◌++◌, ◌+◌, ◌*◌, ◌≤◌, length};
 ghost use Rattle.geometry.specs.Lent.{spot};
+ghost use Rattle.index_edge.specs.Number.{edge_of};
+ghost use Rattle.polygon.specs.Edges.{edge_sum};
 ghost use Rattle.job.specs.Ascii.{ascii};
 ghost use Rattle.job.specs.Buffers.{Put};
 ghost use Rattle.job.specs.Decimal.{decimal};
 ghost use Rattle.job.specs.Loops.{spots};
-ghost use Rattle.job.specs.Text.{summary, point_line, point_lines, refusal_line, report_text};
+ghost use Rattle.job.specs.Tallies.{tally};
+ghost use Rattle.job.specs.Text.{summary, point_line, point_lines, edge_line, edge_lines, stopped_lines, report_text, positions};
 ghost use Rattle.job.specs.Writing.{Wrote, HasRoom};
 
 use super::feed::Loop;
+use super::tangled::Tangled;
 use super::writer::Writer;
 use geometry::point::Point;
+use index_edge::IndexEdge;
 use refusal::Refusal;
 
-// What is told of a delivered loop: the moves made, and the records at the start. Not the planner's own answer, which this crate knows nothing of.
-#[derive(Clone, Copy, Debug, PartialEq, Eq)]
-pub struct Summary {
-    pub moves: usize,
-    pub cross: usize,
+// What is told of a job. Not the planner's own answer, which this crate knows nothing of.
+#[derive(Clone, Copy)]
+pub enum Report<'a> {
+    // The moves made, the records at the start, and the loop.
+    Delivered {
+        moves: usize,
+        cross: usize,
+        told: Loop<'a>,
+    },
+    // The picks are used up: the records left, and the ring then.
+    Stopped {
+        left: usize,
+        told: Tangled<'a>,
+    },
+    // Any other refusal.
+    Refused(Refusal),
 }
 
 // The line `ok N moves M cross C feed F`.
@@ -44,17 +60,6 @@ fn put_line(w: &mut Writer, text: &[u8], v: u64)
     w.text(b"\n");
 }
 
-// The line `refused K`, or `refused 8 left L`, of which the words before L are one text.
-fn put_refusal(w: &mut Writer, refusal: Refusal)
-    requires { HasRoom w.old 36 }
-    ensures { Wrote w.old w.new (refusal_line refusal) }
-{
-    match refusal {
-        Refusal::PicksUsedUp { left, .. } => put_line(w, b"refused 8 left ", left as u64),
-        _ => put_line(w, b"refused ", refusal.number() as u64),
-    }
-}
-
 // A point's line.
 #[tactic(auto, using(crate::proofs::Decimals::length_integer))]
 fn put_point(w: &mut Writer, p: Point)
@@ -77,34 +82,70 @@ fn put_points(w: &mut Writer, told: Loop)
     }
 }
 
+// An edge's line, `edge A B C`. Its numbers have five digits at most.
+#[tactic(auto, using(crate::proofs::Decimals::length_u16))]
+fn put_edge(w: &mut Writer, e: IndexEdge, count: u16)
+    requires { HasRoom w.old 23 }
+    ensures { Wrote w.old w.new (edge_line (edge_of e) count) }
+{
+    w.field(b"edge ", e.min.0 as u64);
+    w.field(b" ", e.max.0 as u64);
+    w.field(b" ", count as u64);
+    w.text(b"\n");
+}
+
+// The lines of the edges by position; answers the sum of their counts.
+fn put_edges(w: &mut Writer, told: Tangled) -> u64
+    requires { HasRoom w.old (23 * length told.ring.now) }
+    ensures lines { Wrote w.old w.new (edge_lines (tally told.entry) told.entry.ring.now (length told.entry.ring.now)) }
+    ensures short { length (edge_lines (tally told.entry) told.entry.ring.now (length told.entry.ring.now)) ≤ 23 * length told.entry.ring.now }
+    ensures total { result ≡ edge_sum (tally told.entry) (length told.entry.ring.now) told.entry.ring.now }
+{
+    let mut total = 0;
+    for i in 0..told.ring.len() {
+        let e = told.edge(i);
+        let count = told.count(e);
+        put_edge(w, e, count);
+        total += count as u64;
+    }
+    total
+}
+
+// The lines of a run that used up its picks. The words before L are one text.
+fn put_stopped(w: &mut Writer, left: usize, told: Tangled)
+    requires { HasRoom w.old (63 + 23 * length told.ring.now) }
+    ensures lines { Wrote w.old w.new (stopped_lines (tally told.entry) told.entry.ring.now left) }
+    ensures short { length (stopped_lines (tally told.entry) told.entry.ring.now left) ≤ 63 + 23 * length told.entry.ring.now }
+{
+    put_line(w, b"refused 8 left ", left as u64);
+    let total = put_edges(w, told);
+    put_line(w, b"total ", total);
+}
+
 // The text of an answer.
-fn put_text(w: &mut Writer, report: Result<Summary, Refusal>, told: Loop)
-    requires { HasRoom w.old (104 + 44 * length told.ring.now) }
-    ensures { Wrote w.old w.new (report_text (spots told.entry) told.entry.ring.now report) }
+fn put_text(w: &mut Writer, report: Report<'_>)
+    requires { HasRoom w.old (104 + 44 * positions report) }
+    ensures text { Wrote w.old w.new (report_text report.entry) }
+    ensures short { length (report_text report.entry) ≤ 104 + 44 * positions report.entry }
 {
     match report {
-        Ok(Summary { moves, cross }) => {
-            put_summary(
-                w,
-                told.ring.len() as u64,
-                moves as u64,
-                cross as u64,
-                told.feed(),
-            );
+        Report::Delivered { moves, cross, told } => {
+            let n = told.ring.len() as u64;
+            put_summary(w, n, moves as u64, cross as u64, told.feed());
             put_points(w, told);
         }
-        Err(refusal) => put_refusal(w, refusal),
+        Report::Stopped { left, told } => put_stopped(w, left, told),
+        Report::Refused(refusal) => put_line(w, b"refused ", refusal.number() as u64),
     }
 }
 
-// Writes an answer's text to the start of `out`, and answers its length. `told` is the loop that is delivered, or empty.
-#[tactic(auto, using(crate::proofs::Lines::length_report))]
-pub fn put_report(report: Result<Summary, Refusal>, told: Loop, out: &mut [u8]) -> usize
-    requires { 104 + 44 * length told.ring.now ≤ length out.old }
-    ensures put { Put out.old 0 (report_text (spots told.entry) told.entry.ring.now report) result out.new }
+// Writes an answer's text to the start of `out`, and answers its length.
+pub fn put_report(report: Report<'_>, out: &mut [u8]) -> usize
+    requires { 104 + 44 * positions report ≤ length out.old }
+    ensures put { Put out.old 0 (report_text report.entry) result out.new }
     ensures within { result ≤ length out.new }
 {
     let mut w = Writer::new(out);
-    put_text(&mut w, report, told);
+    put_text(&mut w, report);
     w.at()
 }
