@@ -1,6 +1,6 @@
 -- The buffers behind the reader, as the lists of the job itself: what was not written is 0, as is what lies past a list's end.
 use mathlib.Core.Path.{◌≡◌, refl, sym, ap, ◌∙◌}
-use mathlib.Core.Bool.{Bool, true, false, ◌&&◌}
+use mathlib.Core.Bool.{Bool, true, ◌&&◌}
 use mathlib.Core.List.{List, [], ◌∷◌}
 use Prim.Native.Nat.{ℕ, zero, suc, ◌+◌, ◌-◌, ◌≤◌}
 use native.Mathlib.Omega.{arith}
@@ -9,22 +9,19 @@ use lib.ListN.{length, take, drop}
 use lib.Seq.{get_or-append-add, get_or-drop, take-append_seam}
 use borrow.Author.Tests.{eq-eqb, ne_eqb}
 use Rattle.algebra.specs.Cases.{both, le_cases, and_left, and_right}
-use Rattle.algebra.specs.Ranges.{up_from, table_at}
+use Rattle.algebra.specs.Ranges.{table_at}
 use Rattle.geometry.specs.Plane.{is_zero}
 use Rattle.geometry.specs.Lent.{coord, points}
-use Rattle.machine.specs.Answer.{call}
 use Rattle.job.specs.Buffers.{over}
 use Rattle.job.specs.Job.{x_at, y_at, pick_at, refusal, accepted}
 use Rattle.refusal.specs.Number.{number_of}
 use Rattle.refusal.specs.declared.Refusal.{Refusal}
 use Rattle.std.proofs.lemmas.List.{get_or_past}
 use Rattle.geometry.proofs.Points.{zero_yes}
-use Rattle.job.specs.Text.{refusal_line}
-use Rattle.job.proofs.Lines.{other_line}
-use Rattle.job.proofs.Refusals.{never_eight}
+use Rattle.job.specs.Text.{refused_line}
 use Rattle.job.proofs.Written.{table, length_table, over_at}
 use Rattle.job.proofs.ReadJobs.{WasRead, WasRefused}
-use Rattle.tour.specs.Printed.{told, printed}
+use Rattle.tour.specs.Printed.{run_text, printed}
 
 -- a buffer of zeros, by a test that computes
 abbrev pub all_zero : List ℤ → Bool
@@ -53,17 +50,16 @@ unfolding over
 take_table l f n = ap (λ k. take k (over l f n)) (sym (length_table f n)) ∙ take-append_seam (table f n) (drop n l)
 
 module _ (job : List ℕ) (x y : List ℤ) (q : List ℕ) (lx : length x ≡ 48) (ly : length y ≡ 48) (lq : length q ≡ 4096) where
-  pub refused_printed : (r : Refusal) {x' y' : List ℤ} {q' : List ℕ} → WasRefused job x y q (number_of r) x' y' q' → refusal_line r ≡ printed job
+  pub refused_printed : (r : Refusal) {x' y' : List ℤ} {q' : List ℕ} → WasRefused job x y q (number_of r) x' y' q' → refused_line (number_of r) ≡ printed job
   unfolding printed accepted
   refused_printed r w =
       let e : refusal job 48 48 4096 ≡ number_of r = (λ t. refusal job (sym lx t) (sym ly t) (sym lq t)) ∙ w.number in
       let no : refusal job 48 48 4096 ≡ 0 → ⊥ = λ z. w.some (sym e ∙ z) in
       rw (ne_eqb (refusal job 48 48 4096) 0 no, e)
-      (sym (other_line r (λ moves left is. never_eight job 48 48 4096 (e ∙ ap number_of is))))
 
   module _ (zx : all_zero x ≡ true) (zy : all_zero y ≡ true) where
     pub read_printed : {n m : ℕ} {x' y' : List ℤ} {q' : List ℕ} → WasRead job x y q n m x' y' q'
-        → told (points x' y') (call n (points x' y') false (up_from 0 n) (take m q')) ≡ printed job
+        → run_text n (points x' y') (take m q') ≡ printed job
     unfolding printed accepted
     read_printed {n} {m} {x'} {y'} {q'} w =
         let e : refusal job 48 48 4096 ≡ 0 = (λ t. refusal job (sym lx t) (sym ly t) (sym lq t)) ∙ w.number in
@@ -72,4 +68,4 @@ module _ (job : List ℕ) (x y : List ℤ) (q : List ℕ) (lx : length x ≡ 48)
         let pt : points x' y' ≡ points (table (x_at job) n) (table (y_at job) n) = λ t i. record { x = ex i t; y = ey i t } in
         let ps : take m q' ≡ table (pick_at job) m = ap (take m) w.ps ∙ take_table q (pick_at job) m in
         rw (eq-eqb (refusal job 48 48 4096) 0 e, w.points_are, w.picks_are)
-        (λ t. told (pt t) (call n (pt t) false (up_from 0 n) (ps t)))
+        (λ t. run_text n (pt t) (ps t))

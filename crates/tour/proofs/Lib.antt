@@ -1,7 +1,9 @@
 -- The example of the job file's page
 pub mod Example
--- What holds of a delivered loop
+-- What holds of a run that is not refused
 pub mod Delivered
+-- The counts by edge that are printed
+pub mod Tangles
 -- The buffers behind the reader
 pub mod Jobs
 -- The room for a job's points

@@ -10,14 +10,15 @@ use borrow.Author.Tests.{le-ltb, eq-eqb}
 use Rattle.algebra.specs.Cases.{both, eq_cases, never, not_true}
 use Rattle.algebra.specs.Ranges.{all_true, up_from, up_from_length}
 use Rattle.geometry.specs.Plane.{Point}
+use Rattle.index_edge.specs.Edge.{Edge}
 use Rattle.machine.specs.Answer.{Answer, refused, unfinished, delivered, refusal as first_refusal, too_many, answer, call}
 use Rattle.machine.specs.Machine.{after, place}
 use Rattle.machine.proofs.Accepted.{seven_or_nineteen}
 use Rattle.job.specs.Decimal.{digits, decimal}
 use Rattle.job.specs.Job.{point_count, pick_count, pick_at, refusal, accepted}
-use Rattle.job.specs.Text.{summary, refused_line, stopped_line, loop_lines}
+use Rattle.job.specs.Text.{summary, loop_lines, left_line, stopped_lines, refused_line}
 use Rattle.job.proofs.Refusals.{accepted_job, up_to_thirteen}
-use Rattle.tour.specs.Printed.{told, picks, board, printed}
+use Rattle.tour.specs.Printed.{told, tangle_after, picks, board, printed}
 
 module _ (job : List ℕ) where
   module _ (ok : refusal job 48 48 4096 ≡ 0) where
@@ -37,11 +38,11 @@ other_number : (k : ℕ) → k ≤ 13 → nineteen (refused_line k) ≡ false
 unfolding refused_line decimal digits
 other_number k h = not_true (nineteen (refused_line k)) (all_true 14 (λ i. not (nineteen (refused_line i))) refl k (omega (arith, h)))
 
-other_answer : (pt : ℕ → Point) (a : Answer) → ((k : ℕ) → a ≡ refused k → k ≤ 13) → nineteen (told pt a) ≡ false
-unfolding told stopped_line loop_lines summary
-other_answer pt (refused k) h = other_number k (h k refl)
-other_answer pt (unfinished ring moves left) h = refl
-other_answer pt (delivered ring moves cross) h = refl
+other_answer : (pt : ℕ → Point) (count : Edge → ℕ) (a : Answer) → ((k : ℕ) → a ≡ refused k → k ≤ 13) → nineteen (told pt count a) ≡ false
+unfolding told stopped_lines left_line loop_lines summary
+other_answer pt count (refused k) h = other_number k (h k refl)
+other_answer pt count (unfinished ring moves left) h = refl
+other_answer pt count (delivered ring moves cross) h = refl
 
 -- a call with few enough picks is refused with 1 to 7
 call_number : (n : ℕ) (pt : ℕ → Point) (r cs : List ℕ) → too_many cs ≡ false → (k : ℕ) → call n pt false r cs ≡ refused k → k ≤ 13
@@ -71,7 +72,7 @@ unfolding printed accepted
 other_text job =
     both (eq_cases (refusal job 48 48 4096) 0)
     (λ z. rw (eq-eqb (refusal job 48 48 4096) 0 z.0)
-    (other_answer (board job) (call (point_count job) (board job) false (up_from 0 (point_count job)) (picks job))
+    (other_answer (board job) (tangle_after (point_count job) (board job) (picks job)) (call (point_count job) (board job) false (up_from 0 (point_count job)) (picks job))
     (call_number (point_count job) (board job) (up_from 0 (point_count job)) (picks job) (not_many job z.0))))
     (λ z. rw z.1 (other_number (refusal job 48 48 4096) (up_to_thirteen job 48 48 4096)))
 

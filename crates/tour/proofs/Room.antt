@@ -11,9 +11,9 @@ use Rattle.algebra.specs.Size.{mul_bound}
 use Rattle.geometry.specs.Lent.{Lent}
 use Rattle.checks.specs.Checks.{short}
 
--- check 2 with 48 places for the ring and its index, and 48×47 in each of the seven record buffers
+-- check 2 with 48 places for the ring and its index, and 48×47 in each of the eight record buffers
 abbrev pub cramped : ℕ → List ℤ → List ℤ → Bool
-cramped n x y = short n (length x ∷ length y ∷ 48 ∷ 48 ∷ []) (2256 ∷ 2256 ∷ 2256 ∷ 2256 ∷ 2256 ∷ 2256 ∷ 2256 ∷ [])
+cramped n x y = short n (length x ∷ length y ∷ 48 ∷ 48 ∷ []) (2256 ∷ 2256 ∷ 2256 ∷ 2256 ∷ 2256 ∷ 2256 ∷ 2256 ∷ 2256 ∷ [])
 
 pub roomy : (n : ℕ) (x y : List ℤ) → Lent n x y → n ≤ 48 → cramped n x y ≡ false
 roomy n x y l h =

@@ -1,39 +1,54 @@
 // From a job to what is printed of it.
 #![tactic(auto)]
 
-ghost use Rattle.std.specs.Prelude.{ℕ, ◌≤◌, ◌≡◌, false, length, take, Ok};
-ghost use Rattle.algebra.specs.Ranges.{up_from};
+ghost use Rattle.std.specs.Prelude.{ℕ, ◌≤◌, ◌≡◌, length, take, Ok, Err};
+ghost use Rattle.refusal.specs.declared.Refusal.TheVariants.{PicksUsedUp};
 ghost use Rattle.geometry.specs.Spots.{spots};
-ghost use Rattle.machine.specs.Answer.{call};
+ghost use Rattle.intersection_set.specs.Pool.{tangle_at};
 ghost use Rattle.job.specs.Buffers.{Put};
 ghost use Rattle.job.specs.Feed.{Drawn};
+ghost use Rattle.job.specs.Tallied.{Tallied};
 ghost use Rattle.two_opt.specs.Entry.{answer_of};
 ghost use Rattle.two_opt.specs.declared.entries.Delivered.{Delivered};
-ghost use Rattle.tour.specs.Printed.{told, printed};
+ghost use Rattle.tour.specs.Printed.{told, run_text, printed};
 
 use geometry::lent::Points;
 use job::feed::Loop;
 use job::reader::{Counts, read_job};
-use job::report::{Summary, put_report};
+use job::report::{Report, put_report};
+use job::tangled::Tangled;
 use refusal::Refusal;
 use two_opt::entries::{Delivered, two_opt_moves};
 use two_opt::workspace::Workspace;
 
-// Writes the text of what an entry answered. The ring's first entries are the loop, if one is delivered.
+// Writes the text of what an entry answered. The ring's first entries are the loop that is delivered, or the ring with crossings left.
 #[tactic(auto, using(crate::proofs::Told::told_refusal), unfolding(crate::specs::Printed::told, job::specs::Text::report_text))]
-fn tell(done: Result<Delivered, Refusal>, points: Points<'_>, ring: &[u16], out: &mut [u8]) -> usize
+fn tell(
+    done: Result<Delivered, Refusal>,
+    points: Points<'_>,
+    ring: &[u16],
+    tangles: &[u16],
+    out: &mut [u8],
+) -> usize
     requires n_bound { (points.n ≤ 48) × (points.n ≤ length ring.now) × (2216 ≤ length out.old) }
-    requires by_index { (d : Delivered) → done ≡ Ok d → Drawn points.x.now points.y.now (take points.n ring.now) }
-    ensures put { Put out.old 0 (told (spots points.entry) (answer_of done (take points.entry.n ring.now))) result out.new }
+    requires drawn { (d : Delivered) → done ≡ Ok d → Drawn points.x.now points.y.now (take points.n ring.now) }
+    requires tallied { (moves left : ℕ) → done ≡ Err (PicksUsedUp moves left) → Tallied (take points.n ring.now) tangles.now }
+    ensures put { let n = points.entry.n in
+        Put out.old 0 (told (spots points.entry) (λ e. tangle_at n e tangles.now) (answer_of done (take n ring.now))) result out.new }
     ensures within { result ≤ length out.new }
 {
+    let ring = &ring[..points.n];
     match done {
         Ok(Delivered { moves, cross }) => {
-            let ring = &ring[..points.n];
             let Points { x, y, .. } = points;
-            put_report(Ok(Summary { moves, cross }), Loop { x, y, ring }, out)
+            let told = Loop { x, y, ring };
+            put_report(Report::Delivered { moves, cross, told }, out)
         }
-        Err(refusal) => put_report(Err(refusal), Loop::empty(), out),
+        Err(Refusal::PicksUsedUp { left, .. }) => {
+            let told = Tangled { ring, tangles };
+            put_report(Report::Stopped { left, told }, out)
+        }
+        Err(refusal) => put_report(Report::Refused(refusal), out),
     }
 }
 
@@ -41,9 +56,7 @@ fn tell(done: Result<Delivered, Refusal>, points: Points<'_>, ring: &[u16], out:
 // no heap.
 fn deliver(points: Points<'_>, picks: &[u32], out: &mut [u8]) -> usize
     requires { (points.n ≤ 48) × (2216 ≤ length out.old) }
-    ensures put { let n = points.entry.n in
-        let pt = spots points.entry in
-        Put out.old 0 (told pt (call n pt false (up_from 0 n) picks.now)) result out.new }
+    ensures put { Put out.old 0 (run_text points.entry.n (spots points.entry) picks.now) result out.new }
     ensures within { result ≤ length out.new }
 {
     let mut ring = [0u16; 48];
@@ -55,6 +68,7 @@ fn deliver(points: Points<'_>, picks: &[u32], out: &mut [u8]) -> usize
     let mut dense = [0u16; 2256];
     let mut reverse = [0u16; 2256];
     let mut free = [0u16; 2256];
+    let mut tangles = [0u16; 2256];
     let mut work = Workspace {
         ring: &mut ring,
         index: &mut index,
@@ -65,13 +79,15 @@ fn deliver(points: Points<'_>, picks: &[u32], out: &mut [u8]) -> usize
         dense: &mut dense,
         reverse: &mut reverse,
         free: &mut free,
+        tangles: &mut tangles,
     };
     let done = two_opt_moves(points.n, points.x, points.y, picks, &mut work);
-    tell(done, points, work.ring, out)
+    let Workspace { ring, tangles, .. } = work;
+    tell(done, points, ring, tangles, out)
 }
 
-// Writes what is printed of a job to the start of `out`, and answers its length. 2,216 bytes hold the longest text: 104 for the first line, 44 for each
-// of 48 points. `out` may be longer, so that it is no array of that size. Points and picks are read into arrays, as C lends them to the reader.
+// Writes what is printed of a job to the start of `out`, and answers its length. 2,216 bytes hold the longest text, that of a loop: 104 for the first line, 44 for
+// each of 48 points. `out` may be longer, so that it is no array of that size. Points and picks are read into arrays, as C lends them to the reader.
 pub fn tour(job: &[u8], out: &mut [u8]) -> usize
     requires { 2216 ≤ length out.old }
     ensures put { Put out.old 0 (printed job.now) result out.new }
@@ -87,6 +103,6 @@ pub fn tour(job: &[u8], out: &mut [u8]) -> usize
                 picks: m,
             },
         ) => { deliver(Points { n, x: &x, y: &y }, &picks[..m], out) }
-        Err(unread) => put_report(Err(unread), Loop::empty(), out),
+        Err(unread) => put_report(Report::Refused(unread), out),
     }
 }
