@@ -13,7 +13,8 @@ in a copy of the oracle's folder, and is then OUT/oracle.
 
 It is asked whatever it has an answer to. What the project adds is answered by rule (`ruled`): more than 256 points or 1,000,000 picks, coordinates
 outside the limits, a ring that does not name each point once, and in `resolve_self_intersections` equal points and fewer than three. It keeps no
-ages: those of the records left are the definition's (machine.py), whose ring, moves and records must be its answer.
+ages: those of the records left are the definition's (machine.py), whose ring, moves and records must be its answer. How many records name each edge is
+counted here.
 
 The format is told in crates/replay/src/main.rt. The last case is cut off.
 """
@@ -23,6 +24,7 @@ import random
 import struct
 import subprocess
 import sys
+from collections import Counter
 
 from machine import ran
 
@@ -257,13 +259,17 @@ def question(case):
     return " ".join(map(str, words)) + "\n"
 
 
-def ages(case, told):
-    """The line of ages behind what the original told of a run that used up its picks."""
+def state_lines(case, told):
+    """The lines of ages and of counts by edge behind what the original told of a run that used up its picks."""
     machine = ran(case.points, case.ring or range(len(case.points)), case.picks)
     records = ["record %d %d %d %d" % (*e, *f) for e, f, _, _ in machine.store.dense]
     state = ["refused 8 moves %d left %d" % (machine.moves, len(records)), " ".join(["ring", *map(str, machine.ring)])]
     assert state + records == told.splitlines(), (case.points, case.ring, case.picks)
-    return "ages" + "".join(" %d" % age for _, _, age, _ in machine.store.dense) + "\n"
+    ages = [age for _, _, age, _ in machine.store.dense]
+    named = Counter(g for e, f, _, _ in machine.store.dense for g in (e, f))
+    tangles = [named[e] for e in machine.edges()]
+    assert sum(tangles) == 2 * len(records)
+    return " ".join(["ages", *map(str, ages)]) + "\n" + " ".join(["tangles", *map(str, tangles)]) + "\n"
 
 
 def answer(case, line):
@@ -277,7 +283,7 @@ def answer(case, line):
     assert parts[0] == "out", line
     records = "".join("record %s\n" % " ".join(p.replace("-", " ").split()) for p in field["dense"].split(","))
     told = "refused 8 moves %d left %d\n" % (int(field["moves"]), int(field["left"])) + order + records
-    return told + ages(case, told)
+    return told + state_lines(case, told)
 
 
 def encode(case):

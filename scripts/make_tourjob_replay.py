@@ -109,6 +109,15 @@ def feed(points, ring):
     return sum(math.isqrt(square(a, b)) for a, b in zip(ring, ring[1:] + ring[:1]))
 
 
+def tangles(ring, dense):
+    """The lines of the ring's edges, with how many of the original's records name each, and of the sum."""
+    named = [edge.rstrip(",") for edge in dense]
+    edges = [sorted(e) for e in zip(ring, ring[1:] + ring[:1])]
+    counts = [named.count(f"{a}-{b}") for a, b in edges]
+    assert sum(counts) == len(named)
+    return "".join(f"edge {a} {b} {count}\n" for (a, b), count in zip(edges, counts)) + f"total {sum(counts)}\n"
+
+
 def text(points, answer):
     parts = [p.strip() for p in answer.split("|")]
     head = parts[0].split()
@@ -116,7 +125,7 @@ def text(points, answer):
         return f"refused {ERRORS[head[1]]}\n"
     fields = {p.split()[0]: p.split()[1:] for p in parts[1:] if p}
     if head[0] == "out":
-        return f"refused 8 left {fields['left'][0]}\n"
+        return f"refused 8 left {fields['left'][0]}\n" + tangles([int(r) for r in fields["ring"]], fields["dense"])
     assert head[0] == "ok", answer
     ring = [int(r) for r in fields["ring"]]
     lines = [f"ok {len(points)} moves {fields['moves'][0]} cross {fields['cross'][0]} feed {feed(points, ring)}"]

@@ -45,7 +45,20 @@ fn write_ages<W: Write>(out: &mut W, slots: &[u16], ages: &[u32]) -> io::Result<
     writeln!(out)
 }
 
-// What an entry answered, with the ring and the records left and their ages.
+// `tangles A B ..`, of each edge of the ring how many records name it: it stands at max + n×min.
+fn write_tangles<W: Write>(out: &mut W, ring: &[u16], tangles: &[u16]) -> io::Result<()> {
+    write!(out, "tangles")?;
+    let ends = ring.iter().cycle().skip(1);
+    for (start, end) in ring.iter().zip(ends) {
+        let row = ring.len().wrapping_mul(*start.min(end) as usize);
+        if let Some(count) = tangles.get(row.wrapping_add(*start.max(end) as usize)) {
+            write!(out, " {count}")?;
+        }
+    }
+    writeln!(out)
+}
+
+// What an entry answered, with the ring and the records left, their ages and the counts by edge.
 pub fn write_answer<W: Write>(
     out: &mut W,
     done: Result<Delivered, Refusal>,
@@ -53,6 +66,7 @@ pub fn write_answer<W: Write>(
     dense: &[u16],
     ends: &[u64],
     ages: &[u32],
+    tangles: &[u16],
 ) -> io::Result<()> {
     match done {
         Ok(Delivered { moves, cross }) => {
@@ -68,7 +82,8 @@ pub fn write_answer<W: Write>(
             write_ring(out, ring)?;
             let slots = &dense[..left.min(dense.len())];
             write_records(out, slots, ends)?;
-            write_ages(out, slots, ages)
+            write_ages(out, slots, ages)?;
+            write_tangles(out, ring, tangles)
         }
         Err(refusal) => writeln!(out, "refused {}", refusal.number()),
     }

@@ -4,9 +4,10 @@
 // count n of points, the count of picks; then x and y of each point, for kind 1 the n entries of the ring, and the picks. Kinds 2 and 3
 // are as 0 and 1 with one pick, which is made as often as the count says.
 // A case is answered by `ok moves M cross C` and a line `ring A B ..`; or by `refused K`; or by `refused 8 moves M left L`, the ring,
-// a line `record A B C D` for each record left, in dense order (the edges A-B and C-D), and a line `ages A B ..` of their ages in that
-// order. The original has no ages: these are the definition's. A case that is cut off, of another kind, of more than 4,096 picks, or of
-// one made more than 1,000,001 times is answered by `bad case K`, counted from 1, and ends the run.
+// a line `record A B C D` for each record left, in dense order (the edges A-B and C-D), a line `ages A B ..` of their ages in that order,
+// and a line `tangles A B ..` of how many records name each edge of the ring, by position. The original has no ages: these are the
+// definition's; the counts are those of its records. A case that is cut off, of another kind, of more than 4,096 picks, or of one made
+// more than 1,000,001 times is answered by `bad case K`, counted from 1, and ends the run.
 #![tactic(auto)]
 
 mod answer;

@@ -23,6 +23,7 @@ pub struct Buffers {
     dense: Vec<u16>,
     reverse: Vec<u16>,
     free: Vec<u16>,
+    tangles: Vec<u16>,
 }
 
 impl Buffers {
@@ -36,6 +37,7 @@ impl Buffers {
             dense: vec![in alloc; 11; RECORDS]?,
             reverse: vec![in alloc; 12; RECORDS]?,
             free: vec![in alloc; 13; RECORDS]?,
+            tangles: vec![in alloc; 17; RECORDS]?,
         })
     }
 
@@ -59,6 +61,7 @@ impl Buffers {
             dense: &mut self.dense,
             reverse: &mut self.reverse,
             free: &mut self.free,
+            tangles: &mut self.tangles,
         };
         match kind {
             Kind::TwoOptMoves => two_opt_moves(n, x, y, picks, &mut work),
@@ -96,6 +99,14 @@ impl Buffers {
         let mut ring = entries.collect::<Vec<u16>>(alloc)?;
         ring.resize(n, 0)?;
         let done = self.run(case.kind, n, &x, &y, &picks, &mut ring);
-        write_answer(out, done, &ring, &self.dense, &self.ends, &self.ages)
+        write_answer(
+            out,
+            done,
+            &ring,
+            &self.dense,
+            &self.ends,
+            &self.ages,
+            &self.tangles,
+        )
     }
 }
