@@ -5,17 +5,27 @@
 
 enum { N = 8, PAIRS = N * (N - 1) };
 
-static uint16_t ring[N + 1], index_of[N], work[4][PAIRS];
+static uint16_t ring[N + 1], index_of[N], work[5][PAIRS];
 static uint64_t words[2][PAIRS];
 static uint32_t ages[PAIRS], many_picks[1000001];
 
-/* One call with all buffers; `room` is the length that the seven work buffers are lent with. */
+/* One call with all buffers; `room` is the length that the eight work buffers are lent with. */
 static tour_answer call(int from_ring, size_t n, const int32_t *x, const int32_t *y, const uint32_t *picks, size_t picks_len, size_t room) {
     return (from_ring ? tour_resolve_self_intersections : tour_two_opt_moves)(n, x, N, y, N, picks, picks_len, ring, N, index_of, N,
-        work[0], room, words[0], room, words[1], room, ages, room, work[1], room, work[2], room, work[3], room);
+        work[0], room, words[0], room, words[1], room, ages, room, work[1], room, work[2], room, work[3], room, work[4], room);
 }
 
-/* The answer, and for a loop or a state the ring and the records left. */
+/* The edge of the ring that most records name; of several, the first. */
+static void show_worst(size_t n) {
+    unsigned worst[3] = {0, 0, 0};
+    for (size_t i = 0; i < n; i++) {
+        unsigned p = ring[i], q = ring[(i + 1) % n], a = p < q ? p : q, b = p < q ? q : p, count = work[4][b + n * a];
+        if (count > worst[2]) worst[0] = a, worst[1] = b, worst[2] = count;
+    }
+    printf("  worst edge %u-%u, named %u times\n", worst[0], worst[1], worst[2]);
+}
+
+/* The answer, and for a loop or a state the ring, the records left, and the worst edge. */
 static void show(const char *title, size_t n, tour_answer a) {
     printf("%s: code %u moves %zu cross %zu left %zu\n", title, (unsigned)a.code, a.moves, a.cross, a.left);
     if (a.code != 0 && a.code != 8) return;
@@ -26,6 +36,7 @@ static void show(const char *title, size_t n, tour_answer a) {
         uint64_t w = words[0][work[1][i]];
         printf("  record %u-%u %u-%u\n", TOUR_MIN0(w), TOUR_MAX0(w), TOUR_MIN1(w), TOUR_MAX1(w));
     }
+    if (a.code == 8) show_worst(n);
 }
 
 /* The records left, the one made first at the front. */

@@ -3,7 +3,7 @@ mod tour;
 
 use tour::{Answer, Buffers, Contact, End};
 
-/// The answer, and for a loop or a state the ring and the records left.
+/// The answer, and for a loop or a state the ring, the records left, and the edge that most of them name; of several, the first.
 fn show(title: &str, n: usize, answer: Answer, lent: &Buffers) {
     let (code, moves, cross, left) = match answer {
         Answer::Delivered { moves, cross } => (0, moves, cross, 0),
@@ -17,6 +17,10 @@ fn show(title: &str, n: usize, answer: Answer, lent: &Buffers) {
     println!("  ring {}", lent.ring[..n].iter().map(u16::to_string).collect::<Vec<_>>().join(" "));
     for [a, b, c, d] in lent.records(left) {
         println!("  record {a}-{b} {c}-{d}");
+    }
+    let worst = lent.tangles(n).reduce(|worst, edge| if edge.1 > worst.1 { edge } else { worst });
+    if let (8, Some(([a, b], count))) = (code, worst) {
+        println!("  worst edge {a}-{b}, named {count} times");
     }
 }
 

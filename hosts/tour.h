@@ -31,10 +31,10 @@ typedef struct {
 
 /* The entries of n points. They need
  *    x, y, ring, index           n elements each
- *    heads .. release (seven)    n * (n - 1) elements each, none for n = 0
+ *    heads .. tangles (eight)    n * (n - 1) elements each, none for n = 0
  * and never touch an element past those. picks has at most 1000000 elements. Work buffers may hold anything at first; ring too, but in
  * tour_resolve_self_intersections, which starts from it. x, y and picks are only read.
- * Code 0: ring[0 .. n-1] is the loop, counter-clockwise, and index is its inverse.
+ * Code 0: ring[0 .. n-1] is the loop, counter-clockwise, and index is its inverse. tangles is 0 at each of its n * (n - 1) places.
  * Code 8: ring and index are those after the last move, and the records left are these. The slots dense[0 .. left-1] are live. A record is two
  * words at its slot, each of four 16-bit parts, the lowest first:
  *    ends[s]     min0, max0, min1, max1    the points of its two edges, the smaller edge first, of an edge the smaller point
@@ -42,7 +42,8 @@ typedef struct {
  *                one that names that edge, TOUR_NONE for none
  * ages[s] is the record's age: the count of records made before it in the run, those since removed too. No two records left share one, and
  * along each edge's list ages fall.
- * heads[b + n * a] is the slot of the newest record that names the edge of a and b, a < b; TOUR_NONE for none.
+ * heads[b + n * a] is the slot of the newest record that names the edge of a and b, a < b; TOUR_NONE for none. tangles[b + n * a] is how many records left
+ * name it, and 0 at the places of no edge; over the edges of the ring these come to 2 * left.
  * reverse[s] is where a live slot stands in dense. Entries of other slots mean nothing. */
 #define TOUR_NONE 65535
 #define TOUR_PART(word, k) ((uint16_t)((word) >> 16 * (k)))
@@ -59,7 +60,8 @@ typedef struct {
     size_t n, const int32_t *x, size_t x_len, const int32_t *y, size_t y_len, const uint32_t *picks, size_t picks_len, \
     uint16_t *ring, size_t ring_len, uint16_t *index, size_t index_len, uint16_t *heads, size_t heads_len, \
     uint64_t *ends, size_t ends_len, uint64_t *links, size_t links_len, uint32_t *ages, size_t ages_len, \
-    uint16_t *dense, size_t dense_len, uint16_t *reverse, size_t reverse_len, uint16_t *release, size_t release_len
+    uint16_t *dense, size_t dense_len, uint16_t *reverse, size_t reverse_len, uint16_t *release, size_t release_len, \
+    uint16_t *tangles, size_t tangles_len
 
 /* A loop through the points, starting in their own order 0, 1, 2, .. */
 tour_answer tour_two_opt_moves(TOUR_WORK);

@@ -52,7 +52,8 @@ mod raw {
                 $(pub fn $entry(n: usize, x: *const i32, x_len: usize, y: *const i32, y_len: usize, picks: *const u32, picks_len: usize,
                     ring: *mut u16, ring_len: usize, index: *mut u16, index_len: usize, heads: *mut u16, heads_len: usize,
                     ends: *mut u64, ends_len: usize, links: *mut u64, links_len: usize, ages: *mut u32, ages_len: usize,
-                    dense: *mut u16, dense_len: usize, reverse: *mut u16, reverse_len: usize, free: *mut u16, free_len: usize) -> Answer;)*
+                    dense: *mut u16, dense_len: usize, reverse: *mut u16, reverse_len: usize, free: *mut u16, free_len: usize,
+                    tangles: *mut u16, tangles_len: usize) -> Answer;)*
                 pub fn tour_ring_fault(n: usize, ring: *const u16, ring_len: usize) -> Fault;
                 pub fn tour_feed(n: usize, x: *const i32, x_len: usize, y: *const i32, y_len: usize, ring: *const u16, ring_len: usize) -> Fed;
                 pub safe fn tour_contact(a1x: i32, a1y: i32, a2x: i32, a2y: i32, b1x: i32, b1y: i32, b2x: i32, b2y: i32) -> Kind;
@@ -87,14 +88,16 @@ pub struct Buffers {
     dense: Vec<u16>,
     reverse: Vec<u16>,
     free: Vec<u16>,
+    tangles: Vec<u16>,
 }
 
 impl Buffers {
     /// Buffers that n points need.
     pub fn new(n: usize) -> Buffers {
         let pairs = n * n.saturating_sub(1);
-        let [heads, dense, reverse, free] = std::array::from_fn(|_| vec![0; pairs]);
-        Buffers { ring: vec![0; n], index: vec![0; n], ends: vec![0; pairs], links: vec![0; pairs], ages: vec![0; pairs], heads, dense, reverse, free }
+        let [heads, dense, reverse, free, tangles] = std::array::from_fn(|_| vec![0; pairs]);
+        let [ends, links] = std::array::from_fn(|_| vec![0; pairs]);
+        Buffers { ring: vec![0; n], index: vec![0; n], ends, links, ages: vec![0; pairs], heads, dense, reverse, free, tangles }
     }
 
     /// The edges of the first records in dense order; after `Stopped { left, .. }` the first `left` are those left.
@@ -105,6 +108,15 @@ impl Buffers {
     /// The ages of these records, in the same order: how many records were made before each in the run.
     pub fn ages(&self, left: usize) -> impl Iterator<Item = u32> + '_ {
         self.dense.iter().take(left).map(|&s| self.ages[s as usize])
+    }
+
+    /// After `Stopped` of n points: the edges of the ring, in ring order, each with its smaller point first and with how many records left name it.
+    pub fn tangles(&self, n: usize) -> impl Iterator<Item = ([u16; 2], u16)> + '_ {
+        (0..n).map(move |i| {
+            let (p, q) = (self.ring[i], self.ring[(i + 1) % n]);
+            let [a, b] = [p.min(q), p.max(q)];
+            ([a, b], self.tangles[b as usize + n * a as usize])
+        })
     }
 
     /// After `Stopped` of n points: the edges that meet the edge of a and b, a < b, by the records left, newest first.
@@ -128,13 +140,13 @@ fn parts(word: u64) -> [u16; 4] {
 macro_rules! call {
     ($entry:ident, $n:expr, $x:expr, $y:expr, $picks:expr, $lent:expr) => {{
         let (x, y, picks): (&[i32], &[i32], &[u32]) = ($x, $y, $picks);
-        let Buffers { ring, index, ends, links, ages, heads, dense, reverse, free } = $lent;
+        let Buffers { ring, index, ends, links, ages, heads, dense, reverse, free, tangles } = $lent;
         // SAFETY: every pointer and length is of a live slice, and the borrow checker keeps the `&mut` ones apart.
         let answer = unsafe {
             raw::$entry($n, x.as_ptr(), x.len(), y.as_ptr(), y.len(), picks.as_ptr(), picks.len(), ring.as_mut_ptr(), ring.len(),
                 index.as_mut_ptr(), index.len(), heads.as_mut_ptr(), heads.len(), ends.as_mut_ptr(), ends.len(),
                 links.as_mut_ptr(), links.len(), ages.as_mut_ptr(), ages.len(), dense.as_mut_ptr(), dense.len(), reverse.as_mut_ptr(), reverse.len(),
-                free.as_mut_ptr(), free.len())
+                free.as_mut_ptr(), free.len(), tangles.as_mut_ptr(), tangles.len())
         };
         match answer.code {
             0 => Answer::Delivered { moves: answer.moves, cross: answer.cross },
