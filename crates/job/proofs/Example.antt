@@ -14,7 +14,7 @@ use Rattle.job.specs.Buffers.{over}
 use Rattle.job.specs.Job.{x_at, y_at, pick_at, outside, shares_bytes, in_range, decide, refusal, accepted, answer}
 use Rattle.job.specs.Encoded.{header, pairs, job_of}
 use Rattle.job.specs.Decimal.{digits, decimal, integer}
-use Rattle.job.specs.Feed.{feed_between, edge_feed, feed_to}
+use Rattle.job.specs.Feed.{feed_between, edge_feed}
 use Rattle.job.specs.Text.{summary, point_line, point_lines, loop_lines}
 
 -- (0,0), (100,100), (100,0), (0,100) and the pick 7, with the offsets 20 and 52 and the total 56
@@ -52,5 +52,5 @@ unfolding word bytes_of word_bytes
 read_pick = refl
 
 pub printed : loop_lines (points x y) (0 ∷ 2 ∷ 1 ∷ 3 ∷ []) 1 1 ≡ ascii "ok 4 moves 1 cross 1 feed 40\n0 0\n10 0\n10 10\n0 10\n"
-unfolding loop_lines summary point_lines point_line integer decimal digits feed_to edge_feed feed_between squared_distance root root_to
+unfolding loop_lines summary point_lines point_line integer decimal digits edge_feed feed_between squared_distance root root_to
 printed = refl

@@ -14,7 +14,7 @@ use Rattle.geometry.proofs.Reading.{here}
 use Rattle.geometry.proofs.Distances.{distance_back, distance_small, distance_some}
 use Rattle.polygon.specs.Ring.{next, at, IsRing}
 use Rattle.polygon.proofs.Positions.{next_lt, next_not}
-use Rattle.job.specs.Feed.{IsFeed, feed_between, edge_feed, feed_to, Drawn}
+use Rattle.job.specs.Feed.{IsFeed, feed_between, edge_feed, Drawn}
 
 -- ---- rows
 abbrev point : ℤ → ℤ → Point
@@ -64,15 +64,6 @@ edge_some n pt r two ring differ i l =
     let j = next_lt n i l in
     let same : i ≡ next n i = ring.apart i (next n i) l j (differ (at r i) (at r (next n i)) (ring.below i l) (ring.below (next n i) j) e) in
     next_not n i two l (sym same)))
-
--- ---- the feed of a loop
-pub feed_none : (pt : ℕ → Point) (ring : List ℕ) → feed_to pt ring 0 ≡ 0
-unfolding feed_to
-feed_none pt ring = refl
-
-pub feed_step : (pt : ℕ → Point) (ring : List ℕ) (i : ℕ) {s e : ℕ} → s ≡ feed_to pt ring i → e ≡ edge_feed pt ring i → s + e ≡ feed_to pt ring (i + 1)
-unfolding feed_to
-feed_step pt ring i g h = rw (add-one, g, h)
 
 -- ---- what can be told
 -- a ring names only points that are lent

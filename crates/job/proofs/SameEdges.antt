@@ -18,7 +18,7 @@ use Rattle.polygon.proofs.Positions.{next_cases, prev_cases}
 use Rattle.polygon.proofs.RingEdges.{moved_length}
 use Rattle.polygon.proofs.EdgeSums.{sum_edges, count_edges}
 use Rattle.polygon.proofs.WholeReversal.{whole, whole_lt, whole_sum, back_edge}
-use Rattle.job.specs.Feed.{feed_between, edge_feed, feed_to, feed_of, SameEdges, started_at}
+use Rattle.job.specs.Feed.{feed_between, edge_feed, feed_of, SameEdges, started_at}
 use Rattle.job.proofs.Feeds.{feed_back}
 
 -- ---- sums over the edges
@@ -33,13 +33,14 @@ along pt e = feed_between (pt e.lo) (pt e.hi)
 along_edge : (pt : ℕ → Point) (a b : ℕ) → along pt (edge a b) ≡ feed_between (pt a) (pt b)
 along_edge pt a b = both (true_or_false (ltb a b)) (λ t. rw t) (λ t. rw t (feed_back (pt b) (pt a)))
 
-feed_to_lem : (pt : ℕ → Point) (r : List ℕ) (k : ℕ) → feed_to pt r k ≡ sum_to (λ i. along pt (edge_at (length r) r i)) k
-unfolding feed_to edge_feed
-feed_to_lem pt r zero = refl
-feed_to_lem pt r (suc k) = omega (arith, feed_to_lem pt r k, along_edge pt (at r k) (at r (next (length r) k)))
+feed_edges : (pt : ℕ → Point) (r : List ℕ) → feed_of pt r ≡ edge_sum (along pt) (length r) r
+unfolding edge_feed
+feed_edges pt r =
+    sum_same (λ k. feed_between (pt (at r k)) (pt (at r (next (length r) k)))) (λ k. along pt (edge_at (length r) r k)) (length r)
+    (λ k h. sym (along_edge pt (at r k) (at r (next (length r) k))))
 
 feed_sum : (pt : ℕ → Point) (r : List ℕ) → feed_of pt r ≡ sum_over (along pt) (edges (length r) r)
-feed_sum pt r = feed_to_lem pt r (length r) ∙ sym (sum_edges (along pt) (length r) r)
+feed_sum pt r = feed_edges pt r ∙ sym (sum_edges (along pt) (length r) r)
 
 -- ---- equal counts, equal sums
 -- e taken out of m: every count and the sum of f say so of the rest

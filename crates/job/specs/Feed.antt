@@ -1,6 +1,7 @@
 -- Feed: of an edge, metered along the line; of a loop, the sum over its edges.
-use Rattle.std.specs.Prelude.{◌≡◌, List, ◌++◌, ℕ, zero, suc, ◌+◌, ◌≤◌, ◌<◌, length, take, drop, ℤ}
+use Rattle.std.specs.Prelude.{◌≡◌, List, ◌++◌, ℕ, ◌≤◌, ◌<◌, length, take, drop, ℤ}
 use Rattle.algebra.specs.Counting.{count_p}
+use Rattle.algebra.specs.Sums.{sum_to}
 use Rattle.integer_root.specs.Root.{Root, root}
 use Rattle.geometry.specs.Plane.{Point, squared_distance}
 use Rattle.geometry.specs.Lent.{Here}
@@ -20,14 +21,9 @@ feed_between a b = root (squared_distance a b)
 unfoldable pub edge_feed : (ℕ → Point) → List ℕ → ℕ → ℕ
 edge_feed pt ring i = feed_between (pt (at ring i)) (pt (at ring (next (length ring) i)))
 
--- the edges from the first k positions
-unfoldable pub feed_to : (ℕ → Point) → List ℕ → ℕ → ℕ
-feed_to pt ring zero = 0
-feed_to pt ring (suc k) = feed_to pt ring k + edge_feed pt ring k
-
--- The feed of a loop.
+-- The feed of a loop: the sum over its edges.
 abbrev pub feed_of : (ℕ → Point) → List ℕ → ℕ
-feed_of pt ring = feed_to pt ring (length ring)
+feed_of pt ring = sum_to (edge_feed pt ring) (length ring)
 
 -- Two loops with the same edges in any order: every edge occurs equally often among the edges of both.
 abbrev pub SameEdges : (r s : List ℕ) → Type 0

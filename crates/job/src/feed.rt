@@ -49,7 +49,7 @@ impl<'a> Loop<'a> {
     }
 
     // The sum over the edges: of 256 it is below 2⁴⁰.
-    #[tactic(auto, using(crate::proofs::Feeds::feed_step, crate::proofs::Feeds::feed_none))]
+    #[tactic(auto, using(algebra::specs::Sums::sum_next))]
     pub fn feed(self) -> u64
         ensures { result ≡ feed_of (spots self.entry) self.entry.ring.now }
     {

@@ -9,7 +9,7 @@ use Rattle.job.specs.Words.{word, signed, word_bytes, bytes_of}
 use Rattle.job.specs.Steps.{steps}
 use Rattle.job.specs.Job.{outside, shares_bytes, in_range, decide, refusal, accepted}
 use Rattle.job.specs.Decimal.{digits, decimal, integer}
-use Rattle.job.specs.Feed.{feed_between, edge_feed, feed_to}
+use Rattle.job.specs.Feed.{feed_between, edge_feed}
 use Rattle.job.specs.Text.{summary, point_line, point_lines, loop_lines, left_line, edge_line, edge_lines, total_line, stopped_lines}
 use Rattle.job.proofs.Example.{job}
 use Rattle.geometry.specs.Contact.{overlap_of, kind}
@@ -17,7 +17,7 @@ use Rattle.machine.specs.Board.{kind_edges, meet_edges}
 use Rattle.tour.specs.Printed.{told, printed}
 
 pub example : printed job ≡ ascii "ok 4 moves 1 cross 1 feed 40\n0 0\n10 0\n10 10\n0 10\n"
-unfolding printed told accepted refusal decide outside shares_bytes in_range word signed steps bytes_of word_bytes loop_lines summary point_line point_lines integer decimal digits feed_to edge_feed feed_between squared_distance root root_to meet_edges kind_edges kind overlap_of
+unfolding printed told accepted refusal decide outside shares_bytes in_range word signed steps bytes_of word_bytes loop_lines summary point_line point_lines integer decimal digits edge_feed feed_between squared_distance root root_to meet_edges kind_edges kind overlap_of
 example = refl
 
 -- (120,0), (10,0), (30,-50), (0,0), (100,0), (20,0), (60,50) and the pick 0, with the offsets 20 and 76 and the total 80

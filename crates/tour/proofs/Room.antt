@@ -1,21 +1,34 @@
 -- Check 2 passes: the buffers have room for 48 points and their records.
-use mathlib.Core.Path.{◌≡◌}
-use mathlib.Core.Bool.{Bool, false}
+use mathlib.Core.Path.{◌≡◌, refl}
+use mathlib.Core.Bool.{false}
 use mathlib.Core.List.{List, [], ◌∷◌}
 use Prim.Native.Nat.{ℕ, ◌*◌, ◌-◌, ◌≤◌}
 use native.Mathlib.Omega.{arith}
 use lib.IntN.{ℤ}
 use lib.ListN.{length}
-use borrow.Author.Tests.{le-ltb}
+use borrow.Author.Tests.{le-ltb, ltb-false}
+use Rattle.algebra.specs.Cases.{or_parts}
 use Rattle.algebra.specs.Size.{mul_bound}
 use Rattle.geometry.specs.Lent.{Lent}
-use Rattle.checks.specs.Checks.{short}
+use Rattle.checks.specs.Checks.{any_below}
+use Rattle.two_opt.specs.Entry.{Loan, record_sized, short_of}
 
--- check 2 with 48 places for the ring and its index, and 48×47 in each of the eight record buffers
-abbrev pub cramped : ℕ → List ℤ → List ℤ → Bool
-cramped n x y = short n (length x ∷ length y ∷ 48 ∷ 48 ∷ []) (2256 ∷ 2256 ∷ 2256 ∷ 2256 ∷ 2256 ∷ 2256 ∷ 2256 ∷ 2256 ∷ [])
+-- what is long enough for the greater size is so for the smaller
+less_below : (m k : ℕ) (l : List ℕ) → m ≤ k → any_below k l ≡ false → any_below m l ≡ false
+less_below m k [] h e = refl
+less_below m k (a ∷ l) h e = let p = or_parts _ _ e in rw (le-ltb a m (omega (arith, h, ltb-false a k p.0)), less_below m k l h p.1)
 
-pub roomy : (n : ℕ) (x y : List ℤ) → Lent n x y → n ≤ 48 → cramped n x y ≡ false
-roomy n x y l h =
+-- 48 places for the ring and its index, and 48×47 in each buffer of the records
+pub record Roomy (l : Loan) : Type 0 where
+  pub ring : any_below 48 (length l.ring ∷ length l.index ∷ []) ≡ false
+  pub records : any_below 2256 (record_sized l.records) ≡ false
+
+pub roomy : (n : ℕ) (x y : List ℤ) (l : Loan) → Lent n x y → n ≤ 48 → Roomy l → short_of n x y l ≡ false
+roomy n x y l given h room =
     let b : n * (n - 1) ≤ 48 * 47 = mul_bound n (n - 1) 48 47 h (omega arith) in
-    rw (le-ltb (length x) n l.lx, le-ltb (length y) n l.ly, le-ltb 48 n h, le-ltb 2256 (n * (n - 1)) b)
+    rw (
+      le-ltb (length x) n given.lx,
+      le-ltb (length y) n given.ly,
+      less_below n 48 (length l.ring ∷ length l.index ∷ []) h room.ring,
+      less_below (n * (n - 1)) 2256 (record_sized l.records) b room.records,
+    )

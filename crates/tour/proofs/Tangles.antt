@@ -10,7 +10,7 @@ use lib.Seq.{get_or-take}
 use Rattle.algebra.specs.Size.{mul_bound}
 use Rattle.algebra.specs.Ranges.{up_from}
 use Rattle.geometry.specs.Plane.{Point}
-use Rattle.geometry.specs.Lent.{points}
+use Rattle.geometry.specs.Lent.{points, Lent}
 use Rattle.index_edge.specs.Edge.{Edge}
 use Rattle.polygon.specs.Edges.{edge_at, edge_sum}
 use Rattle.intersection_set.specs.Lists.{head_place}
@@ -30,6 +30,7 @@ use Rattle.two_opt.specs.Entry.{Loan, short_of, Entry}
 use Rattle.two_opt.proofs.TanglesLeft.{entry_tangles}
 use Rattle.tour.specs.Printed.{told, tangle_after, run_text, picks, board, printed}
 use Rattle.tour.proofs.Delivered.{stopped_refused, stopped_as}
+use Rattle.tour.proofs.Room.{Roomy, roomy}
 
 -- a text says nothing of the counts of other edges
 told_same : (pt : ℕ → Point) (f g : Edge → ℕ) (a : Answer)
@@ -58,11 +59,11 @@ module _ (n : ℕ) (pt : ℕ → Point) (short : Bool) (r cs : List ℕ) {l : Li
       }
 
 -- what an entry leaves is told as the machine's counts are
-pub told_counts : {n : ℕ} {x y : List ℤ} {cs : List ℕ} {was is : Loan} {a : Answer} → Entry n x y (up_from 0 n) cs was is a → short_of n x y was ≡ false
+pub told_counts : {n : ℕ} {x y : List ℤ} {cs : List ℕ} {was is : Loan} {a : Answer} → Entry n x y (up_from 0 n) cs was is a → Lent n x y → n ≤ 48 → Roomy was
     → told (points x y) (λ e. tangle_at n e is.records.tangles) a ≡ run_text n (points x y) cs
-told_counts {n} {x} {y} {cs} {was} {is} {a} e roomy =
+told_counts {n} {x} {y} {cs} {was} {is} {a} e given few room =
     let pt : ℕ → Point = points x y in
-    let called : a ≡ call n pt false (up_from 0 n) cs = e.answers ∙ ap (λ s. call n pt s (up_from 0 n) cs) roomy in
+    let called : a ≡ call n pt false (up_from 0 n) cs = e.answers ∙ ap (λ s. call n pt s (up_from 0 n) cs) (roomy n x y was given few room) in
     told_same pt (λ e. tangle_at n e is.records.tangles) (tangle_after n pt cs) a same ∙ ap (told pt (tangle_after n pt cs)) called
   where
     same : (l : List ℕ) (m k : ℕ) → a ≡ unfinished l m k → (i : ℕ) → i < length l → tangle_at n (edge_at (length l) l i) is.records.tangles ≡ tangle_after n (points x y) cs (edge_at (length l) l i)

@@ -1,5 +1,5 @@
 -- `deliver` meets its contract: the answer is the machine's, and what is left can be told.
-use Rattle.std.proofs.Common.{sym, ap, subst, ◌∙◌, get_or, take, arith}
+use Rattle.std.proofs.Common.{refl, sym, ap, subst, ◌∙◌, get_or, take, arith}
 use Rattle.algebra.specs.Ranges.{up_from}
 use Rattle.geometry.specs.Spots.{spots}
 use Rattle.job.specs.Buffers.{Put}
@@ -7,7 +7,6 @@ use Rattle.job.proofs.Feeds.{ring_drawn}
 use Rattle.two_opt.specs.Entry.{answer_of}
 use Rattle.tour.proofs.Delivered.{delivered_ring}
 use Rattle.tour.proofs.Tangles.{stopped_tallied, told_counts}
-use Rattle.tour.proofs.Room.{cramped, roomy}
 use Rattle.tour.proofs.deliver.Goals as goal
 
 pub tell-requires-clause-drawn : goal.tell-requires-clause-drawn
@@ -17,7 +16,7 @@ tell-requires-clause-drawn c =
     let r = c.two_opt_moves-done in
     λ d e.
     ring_drawn p.n p.x.now p.y.now _ p.lent
-    (delivered_ring p.n (spots p) (cramped p.n p.x.now p.y.now) (up_from 0 p.n) a.picks.now
+    (delivered_ring p.n (spots p) _ (up_from 0 p.n) a.picks.now
     (sym r.ensures.entry.answers ∙ ap (λ t. answer_of t (take p.n r.new.work.ring.now)) e))
 
 pub tell-requires-clause-tallied : goal.tell-requires-clause-tallied
@@ -26,7 +25,7 @@ tell-requires-clause-tallied c =
     let p = a.points in
     let r = c.two_opt_moves-done in
     λ moves left e.
-    stopped_tallied p.n (spots p) (cramped p.n p.x.now p.y.now) (up_from 0 p.n) a.picks.now
+    stopped_tallied p.n (spots p) _ (up_from 0 p.n) a.picks.now
     (sym r.ensures.entry.answers ∙ ap (λ t. answer_of t (take p.n r.new.work.ring.now)) e)
     r.new.work.tangles.now c.requires.0 (omega (arith, ap (λ l. get_or l 9 0) r.ensures.same.sizes))
 
@@ -34,5 +33,5 @@ pub returns-clause-put : goal.returns-clause-put
 returns-clause-put c =
     let a = c.args in
     let p = a.points in
-    let e = told_counts c.two_opt_moves-done.ensures.entry (roomy p.n p.x.now p.y.now p.lent c.requires.0) in
+    let e = told_counts c.two_opt_moves-done.ensures.entry p.lent c.requires.0 (record { ring = refl; records = refl }) in
     subst (λ t. Put a.out.now 0 t c.tell.result c.tell.new.out) e c.tell.ensures.put
