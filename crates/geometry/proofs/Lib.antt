@@ -1,5 +1,5 @@
 -- What is proved of the plane, and where:
---   turns: turn_cycle, turn_swap, four (Turns); the fourth turn by the other three: fourth_is (Signs)
+--   turns: turn_cycle, turn_swap, four (Turns); the fourth turn by the other three: fourth_is (MeetingParts)
 --   the tests decide document 01's words: contains_decides (Containing), meets_decides (Meeting), inside_decides (Lines)
 --   the kind of contact: kind_decides, one_kind, kind_rev, kind_swap; they meet where it is not none: meets_is (Contacts)
 --   so do the public answers: containment_decides, contact_decides, meeting_decides; what is refused: proper_decides, contact_refuses (Answering)

@@ -1,6 +1,6 @@
--- The kind of contact by its parts. Three turns give the fourth; two on one side are enough to tell that nothing meets.
+-- The kind of contact by its parts: on one line and off it, the fourth turn by the other three, and by the sides alone where no turn is zero.
 use mathlib.Core.Path.{◌≡◌, refl, sym, ◌∙◌, ap, ap₂, subst}
-use mathlib.Core.Bool.{Bool, true, false, not, ◌&&◌, cond}
+use mathlib.Core.Bool.{Bool, true, false, not, ◌&&◌}
 use mathlib.Core.List.{[], ◌∷◌}
 use Prim.Native.Nat.{◌≤◌}
 use lib.Dec.{eqb}
@@ -11,15 +11,16 @@ use Rattle.algebra.specs.Polynomials.{◌:+◌, ◌:-◌, ◌:*◌}
 use Rattle.algebra.specs.Identities.{ident, pair, ◌:=◌}
 use Rattle.algebra.specs.Size.{abs}
 use Rattle.algebra.specs.Cases.{both, true_or_false, never}
-use Rattle.geometry.specs.Plane.{Point, turn, is_zero, collinear}
+use Rattle.geometry.specs.Plane.{Point, turn, is_zero, eq_point}
 use Rattle.std.specs.Bool.{then_some}
-use Rattle.geometry.specs.Segment.{same_side, shared, parallel, overlap, meets}
-use Rattle.geometry.specs.Contact.{overlap_of, kind}
+use Rattle.geometry.specs.Segment.{same_side, shared, parallel, overlap}
+use Rattle.geometry.specs.Contact.{overlap_of, kind, some_contact}
 use Rattle.geometry.specs.Answers.{without_ends}
 use Rattle.geometry.specs.declared.line_segment.ContactKind.TheVariants.{Crossing, Overlap}
 use Rattle.geometry.specs.Lent.{InRange}
 use Rattle.geometry.proofs.Turns.{turn_of_edge}
-use Rattle.geometry.proofs.Points.{zero_yes}
+use Rattle.geometry.proofs.Points.{zero_is, eq_point_true, turn_first, turn_second}
+use Rattle.geometry.proofs.Contacts.{meets_is}
 use Rattle.geometry.proofs.Reading.{cross_bound, gap_x, gap_y, zero_bits}
 
 -- ---- on one line, and off it
@@ -57,14 +58,25 @@ module _ {a b c d : Point} (h : InRange a × InRange b × InRange c × InRange d
         (cross_bound (d.x -ℤ c.x) (b.y -ℤ c.y) (d.y -ℤ c.y) (b.x -ℤ c.x) (gap_x h.3 h.2 _ refl) (gap_y h.1 h.2 _ refl) (gap_y h.3 h.2 _ refl) (gap_x h.1 h.2 _ refl)),
   )
 
--- ---- strictly on one side
-one_side : (y z o h t : Bool) → y ≡ false → cond (y && z) o (not h && (not true && not t)) ≡ false
-one_side y z o true t e = rw e
-one_side y z o false t e = rw e
+-- ---- with no turn of the first to the second's ends
+pub turns_agree : (a c d : Point) → turn a c d ≡ turn c d a
+turns_agree = ident (pair ∷ pair ∷ pair ∷ []) (λ a c d. turn_of_edge a c d := turn_of_edge c d a) tt
 
-off_line : (p q : ℤ) → same_side p q ≡ true → is_zero p ≡ false
-off_line p q e = both (true_or_false (is_zero p)) (λ t. never (same_side (pos 0) q) (sym (ap (λ z. same_side z q) (zero_yes p t)) ∙ e) refl) (λ t. t)
+-- a shared end would be on both lines
+unshared : (a b c d : Point) → is_zero (turn a b c) ≡ false → is_zero (turn a b d) ≡ false → shared a b c d ≡ false
+unshared a b c d hp hq =
+    let first = λ (v : Point) (h : is_zero (turn a b v) ≡ false). apart a v (λ e. ap (turn a b) (sym e) ∙ turn_first a b) h in
+    let second = λ (v : Point) (h : is_zero (turn a b v) ≡ false). apart b v (λ e. ap (turn a b) (sym e) ∙ turn_second a b) h in
+    rw (first c hp, first d hq, second c hp, second d hq)
+  where
+    apart : (u v : Point) → (u ≡ v → turn a b v ≡ pos 0) → is_zero (turn a b v) ≡ false → eq_point u v ≡ false
+    apart u v at_zero h = both (true_or_false (eq_point u v)) (λ t. never (is_zero (turn a b v)) (zero_is (turn a b v) (at_zero (eq_point_true u v t))) h) (λ t. t)
 
--- a segment whose ends lie strictly on one side of the other does not meet it
-pub beside : (a b c d : Point) → same_side (turn a b c) (turn a b d) ≡ true → meets a b c d ≡ false
-beside a b c d e = rw e (one_side (collinear a b c) (collinear a b d) (overlap a b c d) (shared a b c d) (same_side (turn c d a) (turn c d b)) (off_line (turn a b c) (turn a b d) e))
+-- then the sides alone decide
+pub crosses_is : (a b c d : Point) {p q r s : ℤ} → p ≡ turn a b c → q ≡ turn a b d → r ≡ turn c d a → s ≡ turn c d b → is_zero p ≡ false → is_zero q ≡ false
+    → (not (same_side p q) && not (same_side r s)) ≡ some_contact (kind a b c d)
+crosses_is a b c d ep eq er es hp hq =
+    let zp = ap is_zero (sym ep) ∙ hp in
+    let zq = ap is_zero (sym eq) ∙ hq in
+    (λ t. not (same_side (ep t) (eq t)) && not (same_side (er t) (es t)))
+    ∙ sym (meets_is a b c d ∙ rw (zp, unshared a b c d zp zq))

@@ -1,10 +1,10 @@
 // Segments (line_segment.rs): what a segment contains, and how two segments meet.
-ghost use Rattle.std.specs.Prelude.{◌≡◌, ◌≤◌, ◌+ℤ◌, ◌-ℤ◌, ◌&&◌, ◌||◌, Some};
+ghost use Rattle.std.specs.Prelude.{◌≡◌, ◌≤◌, ◌+ℤ◌, ◌-ℤ◌, ◌&&◌, ◌||◌, false, Some};
 ghost use Rattle.std.specs.Int.Signed.{lt_z};
 ghost use Rattle.algebra.specs.Size.{abs};
-ghost use Rattle.geometry.specs.Plane.{turn};
+ghost use Rattle.geometry.specs.Plane.{turn, is_zero};
 ghost use Rattle.geometry.specs.Segment.{is_open, admits, between, contains, inside, same_side, shared, overlap};
-ghost use Rattle.geometry.specs.Contact.{start_of, stop_of, mark_at, overlap_of, kind};
+ghost use Rattle.geometry.specs.Contact.{start_of, stop_of, mark_at, overlap_of, kind, some_contact};
 ghost use Rattle.geometry.specs.Lent.{spot, InRange};
 ghost use Rattle.geometry.specs.Answers.{told, end_of, mark_of, kind_of, without_ends, contact_of, containment, meeting, contact};
 
@@ -171,6 +171,17 @@ fn contact_by_turns(
     let r = turn_of(c, d, a);
     let s = fourth(p, q, r);
     (!share & (!same_side(p, q) & !same_side(r, s))).then_some(ContactKind::Crossing)
+}
+
+// Whether they meet where neither end of the second is on the line of the first: then they share no end, and no part of the rule is a branch.
+pub fn crosses(a: NearPoint, b: NearPoint, c: NearPoint, d: NearPoint, p: i64, q: i64) -> bool
+    requires { (p ≡ turn (spot a.point) (spot b.point) (spot c.point)) × (q ≡ turn (spot a.point) (spot b.point) (spot d.point)) × (is_zero p ≡ false) × (is_zero q ≡ false) }
+    ensures { result ≡ some_contact (kind (spot a.point) (spot b.point) (spot c.point) (spot d.point)) }
+{
+    // The same turn as that of c, d, a, from gaps that p and q took already.
+    let r = turn_of(a, c, d);
+    let s = fourth(p, q, r);
+    !same_side(p, q) & !same_side(r, s)
 }
 
 // An end of the part that two segments have in common is open where it ends both.
