@@ -1,0 +1,12 @@
+pub mod Growing
+pub mod Vectors
+pub mod Parts
+pub mod Leaves
+pub mod Refreshing
+pub mod Sharing
+pub mod Pruning
+pub mod Querying
+pub mod MeetingBoxes
+pub mod AfterMoves
+pub mod Covering
+pub mod Boards

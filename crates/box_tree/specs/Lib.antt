@@ -1,0 +1,5 @@
+pub mod Boxes
+pub mod Tree
+pub mod Lanes
+pub mod Query
+pub mod Within
