@@ -1,3 +1,9 @@
+pub mod Ends
 pub mod Seeing
+pub mod Filters
+pub mod Testing
+pub mod Querying
+pub mod Picking
 pub mod Sweeping
 pub mod Several
+pub mod Boards

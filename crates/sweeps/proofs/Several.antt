@@ -16,8 +16,8 @@ use Rattle.intersection_set.proofs.Slots.{Grows}
 use Rattle.machine.proofs.Bounds.{scans_append, pairs_append}
 use Rattle.machine.proofs.Kept.{scans_grows, pairs_grows}
 use Rattle.machine.proofs.Turns.{scans_turn, start_outer, edges_at}
-use Rattle.sweeps.specs.declared.pair.Against.{Against}
-use Rattle.sweeps.specs.declared.pair.Against.TheVariants.{Others, Greater}
+use Rattle.sweeps.specs.declared.candidate.Against.{Against}
+use Rattle.sweeps.specs.declared.candidate.Against.TheVariants.{Others, Greater}
 use Rattle.sweeps.specs.Sweep.{sweep_over, Fits}
 use Rattle.sweeps.specs.Several.{nowhere, sweeps_over, FitAll}
 
@@ -44,7 +44,8 @@ module _ (pt : ℕ → Point) where
   sweeps_grows Others all l s = scans_grows pt all l s
   sweeps_grows Greater all l s = pairs_grows pt all l s
 
-  sweeps_turn : (b : Against) (all l : List Edge) (i : ℕ) (s : Store) → i < length l → sweeps_over pt b all (take (suc i) l) s ≡ sweep_over pt b (get_or l i nowhere) all (sweeps_over pt b all (take i l) s)
+  sweeps_turn : (b : Against) (all l : List Edge) (i : ℕ) (s : Store) → i < length l
+      → sweeps_over pt b all (take (suc i) l) s ≡ sweep_over pt b (get_or l i nowhere) all (sweeps_over pt b all (take i l) s)
   sweeps_turn Others all l i s h = scans_turn pt all l i nowhere s h
   sweeps_turn Greater all l i s h = start_outer pt all l i nowhere s h
 
@@ -62,10 +63,11 @@ module _ (pt : ℕ → Point) where
     -- the end of all bounds this one's end
     pub fits_now : FitAll n pt r b l s → Fits n pt r b e (sweeps_over pt b (edges n r) (take i l) s)
     fits_now f =
-        let upto : Store = sweeps_over pt b (edges n r) (take (i + 1) l) s in
-        let part : Grows upto (sweeps_over pt b (edges n r) l s)
-        = subst (Grows upto) (sym (sweeps_append b (edges n r) (take (i + 1) l) (drop (i + 1) l) s) ∙ ap (λ (m : List Edge). sweeps_over pt b (edges n r) m s) (take-append-drop (i + 1) l))
-        (sweeps_grows b (edges n r) (drop (i + 1) l) upto) in
+        let all : List Edge = edges n r in
+        let upto : Store = sweeps_over pt b all (take (i + 1) l) s in
+        let whole : sweeps_over pt b all (drop (i + 1) l) upto ≡ sweeps_over pt b all l s
+        = sym (sweeps_append b all (take (i + 1) l) (drop (i + 1) l) s) ∙ ap (λ (m : List Edge). sweeps_over pt b all m s) (take-append-drop (i + 1) l) in
+        let part : Grows upto (sweeps_over pt b all l s) = subst (Grows upto) whole (sweeps_grows b all (drop (i + 1) l) upto) in
         record {
           few = omega (arith, f.few, ap (λ (u : Store). length u.dense) next_sweep, part.more);
           young = omega (arith, f.young, ap (λ (u : Store). u.pushes) next_sweep, part.pushed);
@@ -76,10 +78,12 @@ removes_append : (xs ys : List Edge) (s : Store) → removes (xs ++ ys) s ≡ re
 removes_append [] ys s = refl
 removes_append (e ∷ xs) ys s = removes_append xs ys (remove_all e s)
 
-pub next_removal : (l : List Edge) (i : ℕ) (s : Store) → i < length l → {e : Edge} → e ≡ get_or l i nowhere → remove_all e (removes (take i l) s) ≡ removes (take (i + 1) l) s
+pub next_removal : (l : List Edge) (i : ℕ) (s : Store) → i < length l → {e : Edge} → e ≡ get_or l i nowhere
+    → remove_all e (removes (take i l) s) ≡ removes (take (i + 1) l) s
 next_removal l i s h q =
+    let one_more : take (i + 1) l ≡ take i l ++ get_or l i nowhere ∷ [] = ap (λ k. take k l) (add-one i) ∙ take-suc l i nowhere h in
     ap (λ (f : Edge). remove_all f (removes (take i l) s)) q
-    ∙ sym (ap (λ (m : List Edge). removes m s) (ap (λ k. take k l) (add-one i) ∙ take-suc l i nowhere h) ∙ removes_append (take i l) (get_or l i nowhere ∷ []) s)
+    ∙ sym (ap (λ (m : List Edge). removes m s) one_more ∙ removes_append (take i l) (get_or l i nowhere ∷ []) s)
 
 pub removes_of_all : (l : List Edge) (i : ℕ) (s : Store) → i ≡ length l → removes (take i l) s ≡ removes l s
 removes_of_all l i s h = ap (λ (m : List Edge). removes m s) (ap (λ k. take k l) h ∙ take-length l)

@@ -7,8 +7,8 @@ use Rattle.intersection_set.specs.Store.{Store}
 use Rattle.intersection_set.specs.Within.{Proper}
 use Rattle.machine.specs.Machine.{scans, pairs}
 use Rattle.sweeps.specs.Sweep.{Small}
-use Rattle.sweeps.specs.declared.pair.Against.{Against}
-use Rattle.sweeps.specs.declared.pair.Against.TheVariants.{Others, Greater}
+use Rattle.sweeps.specs.declared.candidate.Against.{Against}
+use Rattle.sweeps.specs.declared.candidate.Against.TheVariants.{Others, Greater}
 
 -- a place past the end of a list reads as this
 abbrev pub nowhere : Edge

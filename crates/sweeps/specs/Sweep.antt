@@ -6,8 +6,8 @@ use Rattle.polygon.specs.Edges.{edges}
 use Rattle.intersection_set.specs.Store.{Store}
 use Rattle.machine.specs.Board.{meet_edges}
 use Rattle.machine.specs.Machine.{scan_over, pairs_with}
-use Rattle.sweeps.specs.declared.pair.Against.{Against}
-use Rattle.sweeps.specs.declared.pair.Against.TheVariants.{Others, Greater}
+use Rattle.sweeps.specs.declared.candidate.Against.{Against}
+use Rattle.sweeps.specs.declared.candidate.Against.TheVariants.{Others, Greater}
 
 -- against the others, in a move, the other edge is pushed first; else, at the start, the edge itself
 abbrev pub first_of : Against → Edge → Edge → Edge

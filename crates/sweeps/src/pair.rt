@@ -1,4 +1,4 @@
-// An edge and an edge of the ring: how they meet, and what record they make.
+// An edge and an edge of the ring: how they meet.
 ghost use Rattle.std.specs.Prelude.{◌≡◌, true, false, ◌&&◌, ◌||◌, eqb};
 ghost use Rattle.std.specs.Int.Signed.{lt_z};
 ghost use Rattle.geometry.specs.Plane.{is_zero};
@@ -8,17 +8,9 @@ ghost use Rattle.geometry.specs.Answers.{end_of, mark_of};
 ghost use Rattle.sweeps.specs.Sight.{Sight};
 
 use super::segment::{Seen, Segment};
-use geometry::line_segment::{ContactKind, EndPoint, LineSegment, same_side};
+use geometry::line_segment::{ContactKind, EndPoint, LineSegment, crosses};
 use geometry::point::NearPoint;
 use index_edge::{IndexEdge, PointId};
-use intersection_set::intersection_set::IndexIntersection;
-
-// Which edges of the ring one is compared with: in a move every other one, at the start every greater one.
-#[derive(Clone, Copy, PartialEq, Eq, Debug)]
-pub enum Against {
-    Others,
-    Greater,
-}
 
 // The edge `a`, and the ring's edge from one point to the next.
 #[derive(Clone, Copy)]
@@ -27,6 +19,13 @@ pub struct Pair<'a> {
     pub from: Seen,
     pub to: Seen,
     pub ghost sight: { Sight a from to },
+}
+
+// Whether the ring's edge is another than `a`, and whether it is and meets it.
+#[derive(Clone, Copy, Debug, PartialEq, Eq)]
+pub struct Compared {
+    pub other: bool,
+    pub meets: bool,
 }
 
 // An end of an edge: point number a, which stands at t. It is open if it ends the edge from b to c, too.
@@ -48,15 +47,14 @@ fn keys_overlap(low: i64, high: i64, c: i64, d: i64) -> bool
 }
 
 impl<'a> Pair<'a> {
-    ghost use Rattle.std.specs.Prelude.{◌≡◌};
+    ghost use Rattle.std.specs.Prelude.{◌≡◌, not};
     ghost use Rattle.geometry.specs.Segment.{overlap};
     ghost use Rattle.geometry.specs.Answers.{without_ends};
     ghost use Rattle.geometry.specs.Spots.{spots};
-    ghost use Rattle.index_edge.specs.Edge.{edge as edge_between};
+    ghost use Rattle.index_edge.specs.Edge.{edge as edge_between, eq_edge};
     ghost use Rattle.index_edge.specs.Number.{edge_of};
-    ghost use Rattle.machine.specs.Board.{kind_edges, meet_edges};
-    ghost use Rattle.sweeps.specs.Sweep.{asked, wanted};
-    ghost use Rattle.sweeps.specs.Found.{Found};
+    ghost use Rattle.machine.specs.Board.{kind_edges};
+    ghost use Rattle.sweeps.specs.Query.{Compares};
 
     // All four points are on one line.
     fn on_line(self) -> bool
@@ -73,7 +71,7 @@ impl<'a> Pair<'a> {
         keys_overlap(self.a.low, self.a.high, self.from.key, self.to.key)
     }
 
-    // How the edges meet, an end that they share left out. The points are read again: most pairs are settled without them (`is_apart`).
+    // How the edges meet, an end that they share left out. The points are read again: most pairs are settled without it (`compare`).
     pub fn intersect(self) -> Option<ContactKind>
         ensures { result ≡ without_ends (kind_edges (spots self.entry.a.points) (edge_of self.entry.a.edge) (edge_between self.entry.from.id.0 self.entry.to.id.0)) }
     {
@@ -92,53 +90,41 @@ impl<'a> Pair<'a> {
         segment.intersect(other, from.turn, to.turn)
     }
 
-    // What tells most pairs apart at once: on one line the order of the ends, else that both points lie on one side.
-    fn is_apart(self) -> bool
-        ensures { result ≡ true → meet_edges (spots self.entry.a.points) (edge_of self.entry.a.edge) (edge_between self.entry.from.id.0 self.entry.to.id.0) ≡ false }
+    // The ring's edge is another than `a`.
+    fn is_other(self) -> bool
+        ensures { result ≡ not (eq_edge (edge_between self.entry.from.id.0 self.entry.to.id.0) (edge_of self.entry.a.edge)) }
     {
-        if self.on_line() {
-            return !self.overlaps();
-        }
-        same_side(self.from.turn, self.to.turn)
+        IndexEdge::new(self.from.id, self.to.id) != self.a.edge
     }
 
-    // The edge is compared with the other.
-    fn is_asked(self, against: Against) -> bool
-        ensures { result ≡ asked against (edge_of self.entry.a.edge) (edge_between self.entry.from.id.0 self.entry.to.id.0) }
+    // By the whole rule.
+    fn compare_by_kind(self) -> Compared
+        ensures { Compares (spots self.entry.a.points) (edge_of self.entry.a.edge) (edge_between self.entry.from.id.0 self.entry.to.id.0) result }
     {
-        let edge = self.a.edge;
-        let other = IndexEdge::new(self.from.id, self.to.id);
-        match against {
-            Against::Others => other != edge,
-            Against::Greater => edge < other,
+        let other = self.is_other();
+        if !other {
+            return Compared {
+                other,
+                meets: false,
+            };
+        }
+        Compared {
+            other,
+            meets: self.intersect().is_some(),
         }
     }
 
-    // The two edges make a record: the edge is compared with the other, and the kind of their contact is not none.
-    fn is_wanted(self, against: Against) -> bool
-        ensures { result ≡ wanted (spots self.entry.a.points) against (edge_of self.entry.a.edge) (edge_between self.entry.from.id.0 self.entry.to.id.0) }
+    // Most pairs have no point of the one on the other's line: then the edge is another, and no part of the rule is a branch.
+    pub fn compare(self) -> Compared
+        ensures { Compares (spots self.entry.a.points) (edge_of self.entry.a.edge) (edge_between self.entry.from.id.0 self.entry.to.id.0) result }
     {
-        if self.is_apart() {
-            return false;
+        let Pair { a, from, to } = self;
+        if (from.turn == 0) | (to.turn == 0) {
+            return self.compare_by_kind();
         }
-        if !self.is_asked(against) {
-            return false;
-        }
-        self.intersect().is_some()
-    }
-
-    // The record that they make, if they make one.
-    pub fn candidate(self, against: Against) -> Option<IndexIntersection>
-        ensures { Found (spots self.entry.a.points) against (edge_of self.entry.a.edge) (edge_between self.entry.from.id.0 self.entry.to.id.0) result }
-    {
-        if !self.is_wanted(against) {
-            return None;
-        }
-        let edge = self.a.edge;
-        let other = IndexEdge::new(self.from.id, self.to.id);
-        match against {
-            Against::Others => Some(IndexIntersection::new(other, edge)),
-            Against::Greater => Some(IndexIntersection::new(edge, other)),
-        }
+        let from_point = a.points.at(from.id);
+        let to_point = a.points.at(to.id);
+        let meets = crosses(a.min, a.max, from_point, to_point, from.turn, to.turn);
+        Compared { other: true, meets }
     }
 }

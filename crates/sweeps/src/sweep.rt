@@ -10,28 +10,30 @@ ghost use Rattle.intersection_set.specs.Set.{pool_in, SameBuffers};
 ghost use Rattle.intersection_set.specs.Within.{Proper};
 ghost use Rattle.intersection_set.specs.Holds.{Holds};
 ghost use Rattle.machine.specs.Board.{Board};
+ghost use Rattle.box_tree.specs.Tree.{ring_tree};
 ghost use Rattle.sweeps.specs.Sweep.{sweep_over, Fits};
 ghost use Rattle.sweeps.specs.Several.{sweeps_over, AllProper, FitAll};
 
+use super::candidate::{Against, candidate};
 use super::edges::edge_at;
-use super::pair::{Against, Pair};
-use super::segment::Segment;
+use super::query::query;
 use geometry::lent::Points;
-use index_edge::{IndexEdge, PointId};
+use index_edge::IndexEdge;
 use intersection_set::intersection_set::IndexIntersectionSet;
-use polygon::position::{Position, PositionId, next_place};
+use polygon::position::{Position, PositionId};
 
-// Records an edge with each edge of the ring that it meets, of those that it is asked against.
+// Records an edge with each edge of the ring that it meets, of those that it is compared with.
 pub fn sweep(
     set: &mut IndexIntersectionSet<'_>,
     against: Against,
     edge: IndexEdge,
     points: Points<'_>,
     ring: &[u16],
+    tree: &[i32],
 )
     requires { let n = set.old.vertices in
         let pt = spots points in
-        (points.n ≡ n) × IsRing n ring.now × Board n pt × Proper n (edge_of edge) × ((s : Store) × Holds n (pool_in set.old) s × Fits n pt ring.now against (edge_of edge) s) }
+        (points.n ≡ n) × IsRing n ring.now × Board n pt × (tree.now ≡ ring_tree n pt ring.now) × Proper n (edge_of edge) × ((s : Store) × Holds n (pool_in set.old) s × Fits n pt ring.now against (edge_of edge) s) }
     ensures same { SameBuffers set.old set.new }
     ensures free { set.new.free.now ≡ set.old.free.now }
     ensures holds { let n = set.old.vertices in
@@ -39,14 +41,14 @@ pub fn sweep(
         (s : Store) → Holds n (pool_in set.old) s → Fits n pt ring.now against (edge_of edge) s
         → Holds n (pool_in set.new) (sweep_over pt against (edge_of edge) (edges n ring.now) s) }
 {
-    let n = points.n;
-    let a = Segment::new(points, edge);
-    let mut from = a.see(PointId(ring[0]));
-    for i in 0..n {
-        let to = a.see(PointId(ring[next_place(n, i)]));
-        let pair = Pair { a, from, to };
-        from = to;
-        let Some(isect) = pair.candidate(against) else {
+    let mut found = [0u16; 256];
+    let count = query(points, ring, tree, edge, &mut found).count;
+    for at in &found[..count] {
+        let here = Position {
+            id: PositionId(*at),
+            size: points.size(),
+        };
+        let Some(isect) = candidate(against, edge, edge_at(ring, here)) else {
             continue;
         };
         set.push(isect);
@@ -59,11 +61,12 @@ pub fn scans(
     inserted: &[IndexEdge],
     points: Points<'_>,
     ring: &[u16],
+    tree: &[i32],
 )
     requires { let n = set.old.vertices in
         let pt = spots points in
         let l = map edge_of inserted.now in
-        (points.n ≡ n) × IsRing n ring.now × Board n pt × AllProper n l × ((s : Store) × Holds n (pool_in set.old) s × FitAll n pt ring.now Against.Others l s) }
+        (points.n ≡ n) × IsRing n ring.now × Board n pt × (tree.now ≡ ring_tree n pt ring.now) × AllProper n l × ((s : Store) × Holds n (pool_in set.old) s × FitAll n pt ring.now Against.Others l s) }
     ensures same { SameBuffers set.old set.new }
     ensures free { set.new.free.now ≡ set.old.free.now }
     ensures holds { let n = set.old.vertices in
@@ -73,15 +76,15 @@ pub fn scans(
         → Holds n (pool_in set.new) (sweeps_over pt Against.Others (edges n ring.now) l s) }
 {
     for edge in inserted {
-        sweep(set, Against::Others, *edge, points, ring);
+        sweep(set, Against::Others, *edge, points, ring, tree);
     }
 }
 
 // The start: a sweep for each edge of the ring.
-pub fn pairs(set: &mut IndexIntersectionSet<'_>, points: Points<'_>, ring: &[u16])
+pub fn pairs(set: &mut IndexIntersectionSet<'_>, points: Points<'_>, ring: &[u16], tree: &[i32])
     requires { let n = set.old.vertices in
         let pt = spots points in
-        (points.n ≡ n) × IsRing n ring.now × Board n pt × ((s : Store) × Holds n (pool_in set.old) s × FitAll n pt ring.now Against.Greater (edges n ring.now) s) }
+        (points.n ≡ n) × IsRing n ring.now × Board n pt × (tree.now ≡ ring_tree n pt ring.now) × ((s : Store) × Holds n (pool_in set.old) s × FitAll n pt ring.now Against.Greater (edges n ring.now) s) }
     ensures same { SameBuffers set.old set.new }
     ensures free { set.new.free.now ≡ set.old.free.now }
     ensures holds { let n = set.old.vertices in
@@ -96,7 +99,7 @@ pub fn pairs(set: &mut IndexIntersectionSet<'_>, points: Points<'_>, ring: &[u16
             id: PositionId(i as u16),
             size: n as u16,
         };
-        sweep(set, Against::Greater, edge_at(ring, at), points, ring);
+        sweep(set, Against::Greater, edge_at(ring, at), points, ring, tree);
     }
 }
 

@@ -7,7 +7,7 @@ use Rattle.intersection_set.specs.Store.{Store}
 use Rattle.intersection_set.specs.Set.{pool_in, SameBuffers}
 use Rattle.intersection_set.specs.Holds.{Holds}
 use Rattle.sweeps.specs.Several.{sweeps_over, FitAll}
-use Rattle.sweeps.specs.declared.pair.Against.TheVariants.{Greater}
+use Rattle.sweeps.specs.declared.candidate.Against.TheVariants.{Greater}
 use Rattle.sweeps.proofs.sweep.pairs.Given as goal
 
 abbrev pub invariant-loop-i : goal.invariant-loop-i
@@ -18,5 +18,6 @@ invariant-loop-i l =
     record {
       same : SameBuffers l.initial.set l.set;
       free : l.set.free.now ≡ l.initial.set.free.now;
-      holds : (s : Store) → Holds n (pool_in l.initial.set) s → FitAll n pt l.ring Greater all s → Holds n (pool_in l.set) (sweeps_over pt Greater all (take l.i all) s);
+      holds : (s : Store) → Holds n (pool_in l.initial.set) s → FitAll n pt l.ring Greater all s
+          → Holds n (pool_in l.set) (sweeps_over pt Greater all (take l.i all) s);
     }

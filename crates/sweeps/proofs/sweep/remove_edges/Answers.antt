@@ -15,8 +15,9 @@ remove_all-requires c =
     let v = c.loop-edge.invariant in
     let p = c.requires in
     let l = c.loop-edge-test.true in
-    rw v.same.vertices
-    (subst⁻¹ (Proper c.args.set.now.vertices) (edge_there c.args.removed.now c.loop-edge.edge-index l) (p.0 c.loop-edge.edge-index (in_edges c.args.removed.now l)), (_, v.holds p.1.0 p.1.1))
+    let xs = c.args.removed.now in
+    let i = c.loop-edge.edge-index in
+    rw v.same.vertices (subst⁻¹ (Proper c.args.set.now.vertices) (edge_there xs i l) (p.0 i (in_edges xs l)), (_, v.holds p.1.0 p.1.1))
 
 pub loop-edge-preserved : goal.loop-edge-preserved
 loop-edge-preserved c =
@@ -24,12 +25,13 @@ loop-edge-preserved c =
     let d = c.remove_all.ensures in
     let l = c.loop-edge-test.true in
     let xs = c.args.removed.now in
+    let i = c.loop-edge.edge-index in
     record {
       same = same_then v.same d.same;
       ends = d.ends ∙ v.ends;
       holds =
           λ s h.
-          subst (Holds c.args.set.now.vertices _) (next_removal (map edge_of xs) c.loop-edge.edge-index s (in_edges xs l) (edge_there xs c.loop-edge.edge-index l))
+          subst (Holds c.args.set.now.vertices _) (next_removal (map edge_of xs) i s (in_edges xs l) (edge_there xs i l))
           (rw v.same.vertices at d.removed _ (v.holds s h));
     }
 

@@ -6,10 +6,11 @@ use lib.ListN.{length, length-map}
 use Rattle.geometry.specs.Spots.{spots}
 use Rattle.index_edge.specs.Number.{edge_of}
 use Rattle.polygon.specs.Edges.{edges}
+use Rattle.intersection_set.specs.Store.{Store}
 use Rattle.intersection_set.specs.Within.{Proper}
 use Rattle.intersection_set.specs.Holds.{Holds}
 use Rattle.intersection_set.proofs.Buffers.{same_then}
-use Rattle.sweeps.specs.declared.pair.Against.TheVariants.{Others}
+use Rattle.sweeps.specs.declared.candidate.Against.TheVariants.{Others}
 use Rattle.sweeps.proofs.Several.{in_edges, edge_there, sweeps_all, next_sweep, fits_now}
 use Rattle.sweeps.proofs.sweep.scans.Goals as goal
 
@@ -18,13 +19,13 @@ sweep-requires c =
     let n = c.args.set.now.vertices in
     let v = c.loop-edge.invariant in
     let p = c.requires in
-    let q = p.4 in
+    let q = p.5 in
     let i = c.loop-edge.edge-index in
     let xs = c.args.inserted.now in
     let l = in_edges xs c.loop-edge-test.true in
     let e = edge_there xs i c.loop-edge-test.true in
-    rw v.same.vertices
-    (p.0, p.1, p.2, subst⁻¹ (Proper n) e (p.3 i l), (_, v.holds q.0 q.1 q.2, fits_now (spots c.args.points) n c.args.ring.now Others (map edge_of xs) i q.0 l e q.2))
+    let fits = fits_now (spots c.args.points) n c.args.ring.now Others (map edge_of xs) i q.0 l e q.2 in
+    rw v.same.vertices (p.0, p.1, p.2, p.3, subst⁻¹ (Proper n) e (p.4 i l), (_, v.holds q.0 q.1 q.2, fits))
 
 pub loop-edge-preserved : goal.loop-edge-preserved
 loop-edge-preserved c =
@@ -50,4 +51,5 @@ returns-clause-holds c =
     let n = c.args.set.now.vertices in
     let xs = c.args.inserted.now in
     let e : c.loop-edge.edge-index ≡ length (map edge_of xs) = omega (arith, length-map xs edge_of) in
-    λ s h f. subst (Holds n _) (sweeps_all (spots c.args.points) Others (edges n c.args.ring.now) (map edge_of xs) c.loop-edge.edge-index s e) (c.loop-edge.invariant.holds s h f)
+    let all = λ (s : Store). sweeps_all (spots c.args.points) Others (edges n c.args.ring.now) (map edge_of xs) c.loop-edge.edge-index s e in
+    λ s h f. subst (Holds n _) (all s) (c.loop-edge.invariant.holds s h f)

@@ -9,7 +9,7 @@ use Rattle.intersection_set.specs.Store.{Store}
 use Rattle.intersection_set.specs.Set.{pool_in, SameBuffers}
 use Rattle.intersection_set.specs.Holds.{Holds}
 use Rattle.sweeps.specs.Several.{sweeps_over, FitAll}
-use Rattle.sweeps.specs.declared.pair.Against.TheVariants.{Others}
+use Rattle.sweeps.specs.declared.candidate.Against.TheVariants.{Others}
 use Rattle.sweeps.proofs.sweep.scans.Given as goal
 
 abbrev pub invariant-loop-edge : goal.invariant-loop-edge
@@ -20,5 +20,6 @@ invariant-loop-edge l =
     record {
       same : SameBuffers l.initial.set l.set;
       free : l.set.free.now ≡ l.initial.set.free.now;
-      holds : (s : Store) → Holds n (pool_in l.initial.set) s → FitAll n pt l.ring Others all s → Holds n (pool_in l.set) (sweeps_over pt Others (edges n l.ring) (take l.edge-index all) s);
+      holds : (s : Store) → Holds n (pool_in l.initial.set) s → FitAll n pt l.ring Others all s
+          → Holds n (pool_in l.set) (sweeps_over pt Others (edges n l.ring) (take l.edge-index all) s);
     }

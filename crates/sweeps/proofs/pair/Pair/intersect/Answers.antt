@@ -19,7 +19,8 @@ pub returns-then-on_line : goal.returns-then-on_line
 returns-then-on_line c =
     let s = c.args.self in
     c.then_some.ensures
-    ∙ kind_on_the_line (spots s.a.points) (edge_of s.a.edge) s.from.id.0 s.to.id.0 s.sight.first.side s.sight.second.side refl refl (sym c.on_line.ensures ∙ c.if-on_line.true) c.overlaps.ensures
+    ∙ kind_on_the_line (spots s.a.points) (edge_of s.a.edge) s.from.id.0 s.to.id.0 s.sight.first.side s.sight.second.side refl refl
+    (sym c.on_line.ensures ∙ c.if-on_line.true) c.overlaps.ensures
 
 pub at-requires : goal.at-requires
 at-requires c = let s = c.args.self in from_below s.a.points s.from.id.0 s.to.id.0 s.sight.among

@@ -14,4 +14,5 @@ returns c =
     let high : SFits w64 a.high = search rules in
     let from : SFits w64 s.from.key = search rules in
     let to : SFits w64 s.to.key = search rules in
-    overlap_by a.points s.from.id.0 s.to.id.0 s.sight.among (read_given low a.spans.least) (read_given high a.spans.greatest) (read_given from s.sight.first.order) (read_given to s.sight.second.order) c.keys_overlap.ensures
+    overlap_by a.points s.from.id.0 s.to.id.0 s.sight.among (read_given low a.spans.least) (read_given high a.spans.greatest)
+    (read_given from s.sight.first.order) (read_given to s.sight.second.order) c.keys_overlap.ensures

@@ -13,11 +13,13 @@ invariant_of-result c =
     let b = c.at-max.result in
     let p = c.at-min.ensures in
     let q = c.at-max.ensures in
+    let lesser = ap (λ (p : NearPoint). spot p.point) c.min.ensures ∙ lesser_near a b ∙ (λ t. min_point (p t) (q t)) in
+    let greater = ap (λ (p : NearPoint). spot p.point) c.max.ensures ∙ greater_near a b ∙ (λ t. max_point (p t) (q t)) in
     record {
       spans = record {
         first = p;
         second = q;
-        least = read_64 c.order_key-low.type_inv (c.order_key-low.ensures ∙ ap order_key (ap (λ (p : NearPoint). spot p.point) c.min.ensures ∙ lesser_near a b ∙ (λ t. min_point (p t) (q t))));
-        greatest = read_64 c.order_key-high.type_inv (c.order_key-high.ensures ∙ ap order_key (ap (λ (p : NearPoint). spot p.point) c.max.ensures ∙ greater_near a b ∙ (λ t. max_point (p t) (q t))));
+        least = read_64 c.order_key-low.type_inv (c.order_key-low.ensures ∙ ap order_key lesser);
+        greatest = read_64 c.order_key-high.type_inv (c.order_key-high.ensures ∙ ap order_key greater);
       };
     }
