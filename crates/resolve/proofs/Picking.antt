@@ -28,7 +28,7 @@ use Rattle.machine.proofs.Exactly.{start_exact}
 use Rattle.machine.proofs.Ready.{begin_ready}
 use Rattle.machine.proofs.Moves.{run_append, run_longer, step_log}
 use Rattle.sweeps.specs.Several.{FitAll}
-use Rattle.sweeps.specs.declared.pair.Against.TheVariants.{Greater}
+use Rattle.sweeps.specs.declared.candidate.Against.TheVariants.{Greater}
 use Rattle.untangle.specs.Running.{state_after, Running, Picked}
 
 -- ---- the start

@@ -1,14 +1,14 @@
 -- The answer of an entry and what it leaves: of a call that a check refuses, and of one that runs.
 use mathlib.Core.Path.{◌≡◌, refl, sym, ap, ◌∙◌, subst, subst⁻¹}
-use mathlib.Core.Bool.{Bool, true, false, cond}
+use mathlib.Core.Bool.{Bool, true, false, ◌||◌, cond}
 use mathlib.Core.List.{List, ◌++◌}
 use Prim.Native.Nat.{ℕ, ◌-◌, ◌*◌, ◌≤◌, ◌<◌}
 use native.Mathlib.Omega.{arith}
-use lib.Dec.{eqb}
+use lib.Dec.{eqb, ltb}
 use lib.IntN.{ℤ}
 use lib.ListN.{length, get_or, take, drop, length-append}
 use lib.Seq.{length-take-le}
-use borrow.Author.Tests.{ne_eqb}
+use borrow.Author.Tests.{ne_eqb, ltb-false}
 use lib.Seq.{take_at, drop_at}
 use Rattle.algebra.specs.Cases.{both, or_parts}
 use Rattle.geometry.specs.Plane.{Point}
@@ -19,6 +19,7 @@ use Rattle.machine.specs.Machine.{begin, after, place}
 use Rattle.machine.specs.Answer.{refused, unfinished, delivered, finish, answer, refusal, too_many}
 use Rattle.machine.proofs.Accepted.{Accepted, accepted, seven_or_nineteen}
 use Rattle.untangle.specs.Running.{state_after}
+use Rattle.box_tree.specs.Tree.{ring_tree, tree_size}
 use Rattle.resolve.specs.Ended.{Counted, last_ring, Ended}
 use Rattle.checks.specs.Checks.{any_below, Of}
 use Rattle.two_opt.specs.Entry.{refusal_of, answer_of, Loan, loan, each, front, past, ring_sized, record_sized, short_of, first_refusal, Entry}
@@ -44,6 +45,7 @@ refused_entry n x y r cs l is some =
       answers = ap refused is ∙ rw (ne_eqb (first_refusal n x y r cs l) 0 no) refl;
       untouched = λ _. refl;
       ended = λ e. absurd (no e);
+      tree = λ e. absurd (no e);
       beyond = refl;
     }
 
@@ -60,21 +62,25 @@ enough n x y l h = record {
   in_reverse = records_long 5 (omega arith);
   in_free = records_long 6 (omega arith);
   in_tangles = records_long 7 (omega arith);
+  in_tree = ltb-false (length l.tree) (tree_size n) (or_parts (any_below n (ring_sized x y l) || any_below (n * (n - 1)) (record_sized l.records)) (ltb (length l.tree) (tree_size n)) h).1;
 }
   where
+    others : (any_below n (ring_sized x y l) || any_below (n * (n - 1)) (record_sized l.records)) ≡ false
+    others = (or_parts (any_below n (ring_sized x y l) || any_below (n * (n - 1)) (record_sized l.records)) (ltb (length l.tree) (tree_size n)) h).0
+
     ring_long : (i : ℕ) → i < 4 → n ≤ get_or (ring_sized x y l) i 0
-    ring_long = long n (ring_sized x y l) (or_parts (any_below n (ring_sized x y l)) (any_below (n * (n - 1)) (record_sized l.records)) h).0
+    ring_long = long n (ring_sized x y l) (or_parts (any_below n (ring_sized x y l)) (any_below (n * (n - 1)) (record_sized l.records)) others).0
 
     records_long : (i : ℕ) → i < 8 → n * (n - 1) ≤ get_or (record_sized l.records) i 0
-    records_long = long (n * (n - 1)) (record_sized l.records) (or_parts (any_below n (ring_sized x y l)) (any_below (n * (n - 1)) (record_sized l.records)) h).1
+    records_long = long (n * (n - 1)) (record_sized l.records) (or_parts (any_below n (ring_sized x y l)) (any_below (n * (n - 1)) (record_sized l.records)) others).1
 
 -- ---- a part from the start on, lent and written
-pub part_length : {n : ℕ} (m : ℕ) (l : List ℕ) → m ≡ n → n ≤ length l → length (take m l) ≡ n
-part_length {n} m l e h = ap (λ k. length (take k l)) e ∙ length-take-le n l h
+pub part_length : {A : Type 0} {n : ℕ} (m : ℕ) (l : List A) → m ≡ n → n ≤ length l → length (take m l) ≡ n
+part_length {n = n} m l e h = ap (λ k. length (take k l)) e ∙ length-take-le n l h
 
 -- what is past it is as it was
-past_part : {n : ℕ} (m : ℕ) (part l : List ℕ) → m ≡ n → length part ≡ n → drop n (part ++ drop m l) ≡ drop n l
-past_part {n} m part l e h = drop_at part (drop m l) n h ∙ ap (λ k. drop k l) e
+past_part : {A : Type 0} {n : ℕ} (m : ℕ) (part l : List A) → m ≡ n → length part ≡ n → drop n (part ++ drop m l) ≡ drop n l
+past_part {n = n} m part l e h = drop_at part (drop m l) n h ∙ ap (λ k. drop k l) e
 
 -- ---- the parts that check 2 asks for, lent to a run
 pub exact_room : (n m : ℕ) (l : Loan) → m ≡ n * (n - 1) → Enough n l → Room n (each (take m) l.records)
@@ -90,8 +96,8 @@ exact_room n m l e h = record {
 }
 
 -- what was lent, with these parts written to its front
-abbrev pub written : ℕ → ℕ → Loan → Loan → Loan
-written n m was parts =
+abbrev pub written : ℕ → ℕ → ℕ → Loan → Loan → Loan
+written n m k was parts =
     let b = was.records in
     let c = parts.records in
     loan (parts.ring ++ drop n was.ring) (parts.index ++ drop n was.index)
@@ -104,36 +110,40 @@ written n m was parts =
     (c.reverse ++ drop m b.reverse)
     (c.free ++ drop m b.free)
     (c.tangles ++ drop m b.tangles))
+    (parts.tree ++ drop k was.tree)
 
-module _ (n m : ℕ) (was parts : Loan) (em : m ≡ n * (n - 1)) (lr : length parts.ring ≡ n) (li : length parts.index ≡ n) (lb : Room n parts.records) where
-  front_written : front n (written n m was parts) ≡ parts
+module _ (n m k : ℕ) (was parts : Loan) (em : m ≡ n * (n - 1)) (ek : k ≡ tree_size n) (lr : length parts.ring ≡ n) (li : length parts.index ≡ n) (lb : Room n parts.records) (lt : length parts.tree ≡ tree_size n) where
+  front_written : front n (written n m k was parts) ≡ parts
   front_written =
-      let k : ℕ = n * (n - 1) in
+      let z : ℕ = n * (n - 1) in
       let b = was.records in
       let c = parts.records in
       λ i. loan (take_at parts.ring (drop n was.ring) n lr i) (take_at parts.index (drop n was.index) n li i)
-      (lent (take_at c.heads (drop m b.heads) k lb.in_heads i) (take_at c.ends (drop m b.ends) k lb.in_ends i) (take_at c.links (drop m b.links) k lb.in_links i) (take_at c.ages (drop m b.ages) k lb.in_ages i) (take_at c.dense (drop m b.dense) k lb.in_dense i) (take_at c.reverse (drop m b.reverse) k lb.in_reverse i) (take_at c.free (drop m b.free) k lb.in_free i) (take_at c.tangles (drop m b.tangles) k lb.in_tangles i))
+      (lent (take_at c.heads (drop m b.heads) z lb.in_heads i) (take_at c.ends (drop m b.ends) z lb.in_ends i) (take_at c.links (drop m b.links) z lb.in_links i) (take_at c.ages (drop m b.ages) z lb.in_ages i) (take_at c.dense (drop m b.dense) z lb.in_dense i) (take_at c.reverse (drop m b.reverse) z lb.in_reverse i) (take_at c.free (drop m b.free) z lb.in_free i) (take_at c.tangles (drop m b.tangles) z lb.in_tangles i))
+      (take_at parts.tree (drop k was.tree) (tree_size n) lt i)
 
-  past_written : past n (written n m was parts) ≡ past n was
+  past_written : past n (written n m k was parts) ≡ past n was
   past_written =
       let b = was.records in
       let c = parts.records in
       λ i. loan (past_part n parts.ring was.ring refl lr i) (past_part n parts.index was.index refl li i)
       (lent (past_part m c.heads b.heads em lb.in_heads i) (past_part m c.ends b.ends em lb.in_ends i) (past_part m c.links b.links em lb.in_links i) (past_part m c.ages b.ages em lb.in_ages i) (past_part m c.dense b.dense em lb.in_dense i) (past_part m c.reverse b.reverse em lb.in_reverse i) (past_part m c.free b.free em lb.in_free i) (past_part m c.tangles b.tangles em lb.in_tangles i))
+      (past_part k parts.tree was.tree ek lt i)
 
   -- a run over the parts is one over what is lent
-  pub ran_parts : (pt : ℕ → Point) (cs : List ℕ) {r : Resolved}
+  pub ran_parts : (pt : ℕ → Point) (cs : List ℕ) {r : Resolved} → parts.tree ≡ ring_tree n pt parts.ring
       → (let s = (begin n pt (take n was.ring)).now in Counted n pt s cs r.moves r.cross r.left × Ended n pt s cs parts.ring parts.index parts.records)
-      → RanIn n pt cs was (written n m was parts) r
-  ran_parts pt cs (counted, ended) = record {
+      → RanIn n pt cs was (written n m k was parts) r
+  ran_parts pt cs tree (counted, ended) = record {
     counted = counted;
     ended = subst⁻¹ (λ (l : Loan). Ended n pt (begin n pt (take n was.ring)).now cs l.ring l.index l.records) front_written ended;
+    tree = subst⁻¹ (λ (l : Loan). l.tree ≡ ring_tree n pt l.ring) front_written tree;
     beyond = past_written;
   }
 
 -- a ring and its index written to the front of what was lent
 pub starting : (n : ℕ) (l : Loan) (r : List ℕ) {ring index : List ℕ} → Enough n l → length r ≡ n → ring ≡ r → length index ≡ n → index ≡ index_of n r
-    → Starting n r l (loan (ring ++ drop n l.ring) (index ++ drop n l.index) l.records)
+    → Starting n r l (loan (ring ++ drop n l.ring) (index ++ drop n l.index) l.records l.tree)
 starting n l r {ring} {index} e lr is li inverse =
     let lring : length ring ≡ n = ap length is ∙ lr in
     record {
@@ -150,8 +160,9 @@ starting n l r {ring} {index} e lr is li inverse =
         in_reverse = e.in_reverse;
         in_free = e.in_free;
         in_tangles = e.in_tangles;
+        in_tree = e.in_tree;
       };
-      beyond = λ i. loan (past_part n ring l.ring refl lring i) (past_part n index l.index refl li i) (each (drop (n * (n - 1))) l.records);
+      beyond = λ i. loan (past_part n ring l.ring refl lring i) (past_part n index l.index refl li i) (each (drop (n * (n - 1))) l.records) (drop (tree_size n) l.tree);
     }
   where
     longer : (part rest : List ℕ) → length part ≡ n → n ≤ length (part ++ rest)
@@ -211,6 +222,7 @@ module _ {n : ℕ} {x y : Bor (List ℤ)} (p : Points) (o : Of n x y p) (r cs : 
         answers = tells _ ∙ ran_answer n pt r cs counted ended.same_ring ∙ rw ok refl;
         untouched = λ no. absurd (no ok);
         ended = λ _. ended;
+        tree = λ _. g.tree;
         beyond = g.beyond ∙ h.beyond;
       }
 

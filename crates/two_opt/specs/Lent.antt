@@ -1,9 +1,10 @@
 -- What a call is lent, in the code's type, and a run over its first entries.
-use Rattle.std.specs.Prelude.{◌≡◌, List, ◌∷◌, ℕ, ◌-◌, ◌*◌, ◌≤◌, length, take}
+use Rattle.std.specs.Prelude.{◌≡◌, List, [], ◌∷◌, ◌++◌, ℕ, ◌-◌, ◌*◌, ◌≤◌, length, take}
 use Rattle.geometry.specs.Plane.{Point}
 use Rattle.polygon.specs.Ring.{index_of}
 use Rattle.intersection_set.specs.Pool.{lent}
 use Rattle.machine.specs.Machine.{begin}
+use Rattle.box_tree.specs.Tree.{ring_tree, tree_size}
 use Rattle.resolve.specs.Ended.{Counted, Ended}
 use Rattle.resolve.specs.declared.resolve.Resolved.{Resolved}
 use Rattle.two_opt.specs.Entry.{Loan, loan, front, past, record_sized}
@@ -11,11 +12,11 @@ use Rattle.two_opt.specs.declared.workspace.Workspace.{Workspace}
 
 -- what its slices hold
 abbrev pub loan_of : Workspace → Loan
-loan_of w = loan w.ring.now w.index.now (lent w.heads.now w.ends.now w.links.now w.ages.now w.dense.now w.reverse.now w.free.now w.tangles.now)
+loan_of w = loan w.ring.now w.index.now (lent w.heads.now w.ends.now w.links.now w.ages.now w.dense.now w.reverse.now w.free.now w.tangles.now) w.tree.now
 
 -- the lengths of what is lent
 abbrev pub sizes : Loan → List ℕ
-sizes l = length l.ring ∷ length l.index ∷ record_sized l.records
+sizes l = length l.ring ∷ length l.index ∷ (record_sized l.records ++ length l.tree ∷ [])
 
 -- The slices are those that were lent, as long as they were.
 pub record SameWorkspace (v w : Workspace) : Type 0 where
@@ -29,6 +30,7 @@ pub record SameWorkspace (v w : Workspace) : Type 0 where
   pub reverse : w.reverse.ghost_name ≡ v.reverse.ghost_name
   pub free : w.free.ghost_name ≡ v.free.ghost_name
   pub tangles : w.tangles.ghost_name ≡ v.tangles.ghost_name
+  pub tree : w.tree.ghost_name ≡ v.tree.ghost_name
   pub sizes : sizes (loan_of w) ≡ sizes (loan_of v)
 
 -- what is lent is enough for n points
@@ -43,6 +45,7 @@ pub record Enough (n : ℕ) (l : Loan) : Type 0 where
   pub in_reverse : n * (n - 1) ≤ length l.records.reverse
   pub in_free : n * (n - 1) ≤ length l.records.free
   pub in_tangles : n * (n - 1) ≤ length l.records.tangles
+  pub in_tree : tree_size n ≤ length l.tree
 
 -- The first n entries of ring and index hold the ring r and its index. The rest is as it was, and still enough.
 pub record Starting (n : ℕ) (r : List ℕ) (was is : Loan) : Type 0 where
@@ -56,4 +59,5 @@ pub record Starting (n : ℕ) (r : List ℕ) (was is : Loan) : Type 0 where
 pub record RanIn (n : ℕ) (pt : ℕ → Point) (cs : List ℕ) (was is : Loan) (r : Resolved) : Type 0 where
   pub counted : Counted n pt (begin n pt (take n was.ring)).now cs r.moves r.cross r.left
   pub ended : Ended n pt (begin n pt (take n was.ring)).now cs (front n is).ring (front n is).index (front n is).records
+  pub tree : (front n is).tree ≡ ring_tree n pt (front n is).ring
   pub beyond : past n is ≡ past n was

@@ -1,5 +1,5 @@
-// What a call is lent to be written: ring, index and the buffers of the records. Check 2 says how many entries of each are needed; no other is read or written.
-ghost use Rattle.std.specs.Prelude.{◌≡◌, false, ◌<◌, ◌≤◌, take};
+// What a call is lent to be written: ring, index, the buffers of the records and the tree. Check 2 says how many entries of each are needed; no other is read or written.
+ghost use Rattle.std.specs.Prelude.{◌≡◌, false, ◌<◌, ◌≤◌, length, take};
 ghost use Rattle.algebra.specs.Ranges.{up_from};
 ghost use Rattle.geometry.specs.Spots.{spots};
 ghost use Rattle.polygon.specs.Ring.{index_of, IsRing, Indexed};
@@ -7,10 +7,12 @@ ghost use Rattle.intersection_set.specs.Pool.{lent};
 ghost use Rattle.intersection_set.specs.Within.{Room};
 ghost use Rattle.machine.specs.Machine.{begin as starting};
 ghost use Rattle.machine.specs.Answer.{refusal, too_many};
+ghost use Rattle.box_tree.specs.Tree.{ring_tree, tree_size};
 ghost use Rattle.resolve.specs.Ended.{Counted, Ended};
 ghost use Rattle.two_opt.specs.Entry.{short_of};
 ghost use Rattle.two_opt.specs.Lent.{loan_of, SameWorkspace, Enough, Starting, RanIn};
 
+use box_tree::tree::{too_short as tree_too_short, tree_size};
 use checks::accept::{Given, record_size, too_many, too_short};
 use geometry::lent::Points;
 use intersection_set::intersection_set::IndexIntersectionSet;
@@ -30,6 +32,7 @@ pub struct Workspace<'a> {
     pub reverse: &'a mut [u16],
     pub free: &'a mut [u16],
     pub tangles: &'a mut [u16],
+    pub tree: &'a mut [i32],
 }
 
 // A run from the ring, of which this is the index, its records in these buffers. It is lent exactly what check 2 asks for, so that no entry past it can be
@@ -47,10 +50,12 @@ fn resolve_in(
     reverse: &mut [u16],
     free: &mut [u16],
     tangles: &mut [u16],
+    tree: &mut [i32],
 ) -> Resolved
     requires { let given = lent heads.old ends.old links.old ages.old dense.old reverse.old free.old tangles.old in
-        Indexed points.n ring.old index.old × (refusal points.n (spots points) false (too_many picks.now) ring.old ≡ 0) × Room points.n given }
-    ensures { let n = points.entry.n in
+        Indexed points.n ring.old index.old × (refusal points.n (spots points) false (too_many picks.now) ring.old ≡ 0) × Room points.n given × (length tree.old ≡ tree_size points.n) }
+    ensures tree { tree.new ≡ ring_tree points.entry.n (spots points.entry) ring.new }
+    ensures ended { let n = points.entry.n in
         let pt = spots points.entry in
         let first = (starting n pt ring.old).now in
         let is = lent heads.new ends.new links.new ages.new dense.new reverse.new free.new tangles.new in
@@ -75,7 +80,7 @@ fn resolve_in(
         counts,
     };
     let mut polygon = Polygon { ring, index };
-    resolve(&mut set, points, &mut polygon, picks)
+    resolve(&mut set, points, &mut polygon, tree, picks)
 }
 
 impl<'a> Workspace<'a> {
@@ -96,7 +101,7 @@ impl<'a> Workspace<'a> {
             self.free.len(),
             self.tangles.len(),
         ];
-        let short = too_short(n, &of_points, &of_records);
+        let short = too_short(n, &of_points, &of_records) || tree_too_short(n, self.tree);
         let many = too_many(picks);
         Given {
             n,
@@ -155,6 +160,7 @@ impl<'a> Workspace<'a> {
             &mut self.reverse[..size],
             &mut self.free[..size],
             &mut self.tangles[..size],
+            &mut self.tree[..tree_size(n)],
         )
     }
 }

@@ -1,1 +1,2 @@
 pub mod Untangling
+pub mod Turning

@@ -35,8 +35,8 @@ use Rattle.machine.proofs.Moves.{run_append}
 use Rattle.machine.proofs.Accepted.{place_picks}
 use Rattle.moves.specs.Plan.{Crossing}
 use Rattle.sweeps.specs.Several.{nowhere, AllProper, FitAll}
-use Rattle.sweeps.specs.declared.pair.Against.TheVariants.{Others}
-use Rattle.sweeps.proofs.Sweeping.{proper_at}
+use Rattle.sweeps.specs.declared.candidate.Against.TheVariants.{Others}
+use Rattle.sweeps.proofs.Ends.{proper_at}
 use Rattle.untangle.specs.Running.{state_after, Running, Picked}
 
 -- ---- edges of a list

@@ -1,11 +1,17 @@
-// What a move does to the ring (two_opt.rs, in `untangle`): the edges that it removes, those that it inserts, and the new order.
-ghost use Rattle.std.specs.Prelude.{◌≡◌, length, map};
+// What a move does to the ring (two_opt.rs, in `untangle`): the edges that it removes, those that it inserts, the new order, and its
+// tree.
+ghost use Rattle.std.specs.Prelude.{◌≡◌, List, ℕ, length, map};
+ghost use Rattle.geometry.specs.Spots.{spots};
 ghost use Rattle.index_edge.specs.Number.{edge_of};
+ghost use Rattle.polygon.specs.Ring.{IsRing};
 ghost use Rattle.polygon.specs.Lent.{SameLoans};
 ghost use Rattle.polygon.specs.Change.{cut, lay, turned, Fits};
 ghost use Rattle.moves.specs.Plan.{plan_of};
+ghost use Rattle.box_tree.specs.Tree.{ring_tree};
 ghost use Rattle.untangle.specs.Few.{few_of};
 
+use box_tree::tree::update;
+use geometry::lent::Points;
 use index_edge::IndexEdge;
 use moves::plan::Move;
 use polygon::polygon::Polygon;
@@ -93,5 +99,18 @@ pub fn turn_ring(polygon: &mut Polygon<'_>, plan: Move)
             let pt1 = polygon.position(edge);
             polygon.vertices_join(pt1, polygon.position(kink));
         }
+    }
+}
+
+// The tree of the ring after it: of the boxes only those on the stretch that it changed are made anew, and those of the nodes above.
+pub fn turn_tree(points: Points<'_>, ring: &[u16], plan: Move, tree: &mut [i32])
+    requires { let n = points.n in
+        let m = plan_of plan in
+        IsRing n ring.now × Fits n m × ((r : List ℕ) × (ring.now ≡ turned n m r) × (tree.old ≡ ring_tree n (spots points) r)) }
+    ensures { tree.new ≡ ring_tree points.entry.n (spots points.entry) ring.now }
+{
+    match plan {
+        Move::Uncross { from, to } => update(points, ring, from.0 as usize, to.0 as usize, tree),
+        Move::Hoist { kink, edge } => update(points, ring, edge.0 as usize, kink.0 as usize, tree),
     }
 }

@@ -12,9 +12,9 @@ use Rattle.resolve.proofs.resolve.go_on.Goals as goal
 pub finish-requires : goal.finish-requires
 finish-requires c =
     let p = c.requires in
-    let run = (c.run-moves.ensures.ran p.2.0 p.2.1).0 in
+    let run = (c.run-moves.ensures.ran p.3.0 p.3.1).0 in
     let three = run.board.three in
-    (p.0 ∙ sym (ran_ring run).len, omega (arith, p.0))
+    (p.0 ∙ sym (ran_ring run).len, omega (arith, p.0), rw p.0 c.run-moves.ensures.tree)
 
 pub returns-clause-ended : goal.returns-clause-ended
 returns-clause-ended c = λ s h.

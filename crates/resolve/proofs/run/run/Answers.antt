@@ -21,10 +21,10 @@ returns-then-is_empty-clause-ran c = λ s h.
 pub untangle-requires : goal.untangle-requires
 untangle-requires c =
     let v = c.loop-i.invariant in
-    let q = c.requires.2 in
+    let q = c.requires.3 in
     let run = (v.ran q.0 q.1).0 in
     let some : 0 < c.loop-i.set.counts.live = let z = eqb-false _ 0 (sym c.is_empty.ensures ∙ c.if-is_empty.false) in omega arith in
-    rw v.same.vertices (c.requires.0, (q.0, _, get_or c.args.picks.now c.loop-i.i 0, run, picked run (still_few c.args.picks.now c.loop-i-test.true c.requires.1) some (c.random-isect.ensures _ _ _ run.holds refl refl refl)))
+    rw v.same.vertices (c.requires.0, v.tree, (q.0, _, get_or c.args.picks.now c.loop-i.i 0, run, picked run (still_few c.args.picks.now c.loop-i-test.true c.requires.1) some (c.random-isect.ensures _ _ _ run.holds refl refl refl)))
 
 pub loop-i-preserved : goal.loop-i-preserved
 loop-i-preserved c =
@@ -37,6 +37,7 @@ loop-i-preserved c =
     record {
       same = same_then v.same d.same;
       loans = (d.loans.0 ∙ v.loans.0, d.loans.1 ∙ v.loans.1);
+      tree = rw v.same.vertices at d.tree;
       ran =
           λ r h.
           let b = v.ran r h in (
