@@ -1,2 +1,3 @@
 pub mod Feeding
 pub mod Points
+pub mod Asking

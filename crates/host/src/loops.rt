@@ -65,9 +65,10 @@ pub extern "C" fn tour_two_opt_moves(
     reverse: &mut [u16],
     free: &mut [u16],
     tangles: &mut [u16],
+    tree: &mut [i32],
 ) -> TourAnswer
-    ensures { let was = loan ring.old index.old (lent heads.old ends.old links.old ages.old dense.old reverse.old free.old tangles.old) in
-        let is = loan ring.new index.new (lent heads.new ends.new links.new ages.new dense.new reverse.new free.new tangles.new) in
+    ensures { let was = loan ring.old index.old (lent heads.old ends.old links.old ages.old dense.old reverse.old free.old tangles.old) tree.old in
+        let is = loan ring.new index.new (lent heads.new ends.new links.new ages.new dense.new reverse.new free.new tangles.new) tree.new in
         ((a : Told) × (result ≡ in_numbers a) × Entry n x.now y.now (up_from 0 n) picks.now was is a) }
 {
     let mut work = Workspace {
@@ -81,6 +82,7 @@ pub extern "C" fn tour_two_opt_moves(
         reverse,
         free,
         tangles,
+        tree,
     };
     two_opt_moves(n, x, y, picks, &mut work).into()
 }
@@ -102,9 +104,10 @@ pub extern "C" fn tour_resolve_self_intersections(
     reverse: &mut [u16],
     free: &mut [u16],
     tangles: &mut [u16],
+    tree: &mut [i32],
 ) -> TourAnswer
-    ensures { let was = loan ring.old index.old (lent heads.old ends.old links.old ages.old dense.old reverse.old free.old tangles.old) in
-        let is = loan ring.new index.new (lent heads.new ends.new links.new ages.new dense.new reverse.new free.new tangles.new) in
+    ensures { let was = loan ring.old index.old (lent heads.old ends.old links.old ages.old dense.old reverse.old free.old tangles.old) tree.old in
+        let is = loan ring.new index.new (lent heads.new ends.new links.new ages.new dense.new reverse.new free.new tangles.new) tree.new in
         ((a : Told) × (result ≡ in_numbers a) × Entry n x.now y.now (take n ring.old) picks.now was is a) }
 {
     let mut work = Workspace {
@@ -118,6 +121,7 @@ pub extern "C" fn tour_resolve_self_intersections(
         reverse,
         free,
         tangles,
+        tree,
     };
     resolve_self_intersections(n, x, y, picks, &mut work).into()
 }

@@ -11,6 +11,7 @@ use Rattle.algebra.specs.Cases.{or_parts}
 use Rattle.algebra.specs.Size.{mul_bound}
 use Rattle.geometry.specs.Lent.{Lent}
 use Rattle.checks.specs.Checks.{any_below}
+use Rattle.box_tree.specs.Tree.{tree_size}
 use Rattle.two_opt.specs.Entry.{Loan, record_sized, short_of}
 
 -- what is long enough for the greater size is so for the smaller
@@ -18,10 +19,11 @@ less_below : (m k : ℕ) (l : List ℕ) → m ≤ k → any_below k l ≡ false 
 less_below m k [] h e = refl
 less_below m k (a ∷ l) h e = let p = or_parts _ _ e in rw (le-ltb a m (omega (arith, h, ltb-false a k p.0)), less_below m k l h p.1)
 
--- 48 places for the ring and its index, and 48×47 in each buffer of the records
+-- 48 places for the ring and its index, 48×47 in each buffer of the records, and 4×95 for the tree
 pub record Roomy (l : Loan) : Type 0 where
   pub ring : any_below 48 (length l.ring ∷ length l.index ∷ []) ≡ false
   pub records : any_below 2256 (record_sized l.records) ≡ false
+  pub tree : 380 ≤ length l.tree
 
 pub roomy : (n : ℕ) (x y : List ℤ) (l : Loan) → Lent n x y → n ≤ 48 → Roomy l → short_of n x y l ≡ false
 roomy n x y l given h room =
@@ -31,4 +33,5 @@ roomy n x y l given h room =
       le-ltb (length y) n given.ly,
       less_below n 48 (length l.ring ∷ length l.index ∷ []) h room.ring,
       less_below (n * (n - 1)) 2256 (record_sized l.records) b room.records,
+      le-ltb (length l.tree) (tree_size n) (omega (arith, h, room.tree)),
     )

@@ -21,7 +21,7 @@ use Rattle.machine.specs.Machine.{place}
 use Rattle.machine.specs.Answer.{Answer, refused, unfinished, delivered, too_many, call}
 use Rattle.machine.proofs.Accepted.{accepted, place_picks}
 use Rattle.machine.proofs.Tangles.{run_tangles}
-use Rattle.sweeps.proofs.Sweeping.{proper_at}
+use Rattle.sweeps.proofs.Ends.{proper_at}
 use Rattle.job.specs.Job.{point_count, accepted as read}
 use Rattle.job.specs.Tallied.{Tallied}
 use Rattle.job.specs.Text.{left_line, edge_lines, total_line, stopped_lines}

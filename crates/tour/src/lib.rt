@@ -52,7 +52,8 @@ fn tell(
     }
 }
 
-// Writes the text of the answer to the points and the picks. The buffers have room for 48 points: 48×47 places for records. They are arrays, since a library uses
+// Writes the text of the answer to the points and the picks. The buffers have room for 48 points: 48×47 places for records, 4×95 numbers for
+// the tree. They are arrays, since a library uses
 // no heap.
 fn deliver(points: Points<'_>, picks: &[u32], out: &mut [u8]) -> usize
     requires { (points.n ≤ 48) × (2216 ≤ length out.old) }
@@ -69,6 +70,7 @@ fn deliver(points: Points<'_>, picks: &[u32], out: &mut [u8]) -> usize
     let mut reverse = [0u16; 2256];
     let mut free = [0u16; 2256];
     let mut tangles = [0u16; 2256];
+    let mut tree = [0i32; 380];
     let mut work = Workspace {
         ring: &mut ring,
         index: &mut index,
@@ -80,6 +82,7 @@ fn deliver(points: Points<'_>, picks: &[u32], out: &mut [u8]) -> usize
         reverse: &mut reverse,
         free: &mut free,
         tangles: &mut tangles,
+        tree: &mut tree,
     };
     let done = two_opt_moves(points.n, points.x, points.y, picks, &mut work);
     let Workspace { ring, tangles, .. } = work;

@@ -33,5 +33,5 @@ pub returns-clause-put : goal.returns-clause-put
 returns-clause-put c =
     let a = c.args in
     let p = a.points in
-    let e = told_counts c.two_opt_moves-done.ensures.entry p.lent c.requires.0 (record { ring = refl; records = refl }) in
+    let e = told_counts c.two_opt_moves-done.ensures.entry p.lent c.requires.0 (record { ring = refl; records = refl; tree = omega arith }) in
     subst (λ t. Put a.out.now 0 t c.tell.result c.tell.new.out) e c.tell.ensures.put
