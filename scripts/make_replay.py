@@ -14,7 +14,7 @@ in a copy of the oracle's folder, and is then OUT/oracle.
 It is asked whatever it has an answer to. What the project adds is answered by rule (`ruled`): more than 256 points or 1,000,000 picks, coordinates
 outside the limits, a ring that does not name each point once, and in `resolve_self_intersections` equal points and fewer than three. It keeps no
 ages: those of the records left are the definition's (machine.py), whose ring, moves and records must be its answer. How many records name each edge is
-counted here.
+counted here. It keeps no tree of boxes either: that is built here from nothing over its ring, for up to SMALL points.
 
 The format is told in crates/replay/src/main.rt. The last case is cut off.
 """
@@ -30,6 +30,7 @@ from machine import ran
 
 LIMIT = 1_000_000_000
 MOST_PICKS = 1_000_000
+SMALL = 24
 FOLDER = os.path.join(os.path.dirname(os.path.dirname(os.path.abspath(__file__))), "crates", "replay")
 REFUSAL = {"DuplicatePoints": 5, "InsufficientVertices": 6, "CoLinearViolation": 7}
 MOVES, RING = 0, 1
@@ -171,6 +172,25 @@ def beginnings(r):
     return found
 
 
+def up_to_the_loop(case):
+    """One case for every beginning of its pick list, from no pick to the first that delivers the loop, so that the tree is compared after every pick."""
+    machine = played(case)
+    assert not machine.store.dense, (case.points, case.ring)
+    return [Case(case.kind, case.points, case.ring, case.picks[:k]) for k in range(machine.moves + 1)]
+
+
+def to_the_loop(r):
+    """A dozen boards of 4 to 12 points and two of 18 and 24, each in its own order and from a ring, pick by pick until the loop is delivered. The code
+    makes up to 8 leaves anew as a whole, and the root's box never changes: so only past 16 points a node above them is seen to follow a pick."""
+    boards = [uniform(r, 4, 1), uniform(r, 8, 3), uniform(r, 12, 4), row(r, 5, 1), row(r, 8, 2), row(r, 12, 3), two_rows(r, 7), two_rows(r, 12)]
+    boards += [folded(9), folded(12), far(r, 6), far(r, 11), uniform(r, 18, 4), row(r, 24, 2)]
+    found = []
+    for points in boards:
+        for case in both(r, points, lcg(r.getrandbits(32), 200)):
+            found += up_to_the_loop(case)
+    return found
+
+
 def large(r):
     """Boards of 48, 64, 128 and 256 points: plenty of picks, and few."""
     found = []
@@ -230,7 +250,8 @@ def refused(r):
 
 def cases():
     r = random.Random(20)
-    return told() + every_order() + small(r) + beginnings(r) + large(r) + picks_of_any_value(r) + refused(r) + many_picks()
+    found = told() + every_order() + small(r) + beginnings(r) + large(r) + picks_of_any_value(r) + refused(r) + many_picks()
+    return found + to_the_loop(r)
 
 
 # ---- answers ----
@@ -259,9 +280,31 @@ def question(case):
     return " ".join(map(str, words)) + "\n"
 
 
+def played(case):
+    return ran(case.points, case.ring or range(len(case.points)), case.picks)
+
+
+def tree_of(edges):
+    """The numbers of a tree over these edges: the box of all their ends, then the tree of the first half, then that of the second."""
+    xs, ys = zip(*itertools.chain(*edges))
+    box = [min(xs), min(ys), max(xs), max(ys)]
+    half = len(edges) // 2
+    return box + tree_of(edges[:half]) + tree_of(edges[half:]) if half else box
+
+
+def tree_line(case, order):
+    """The line of the tree over the ring that the original told."""
+    if len(order) > SMALL:
+        return ""
+    points = [case.points[k] for k in order]
+    numbers = tree_of(list(zip(points, points[1:] + points[:1])))
+    assert len(numbers) == 4 * (2 * len(order) - 1)
+    return " ".join(["tree", *map(str, numbers)]) + "\n"
+
+
 def state_lines(case, told):
     """The lines of ages and of counts by edge behind what the original told of a run that used up its picks."""
-    machine = ran(case.points, case.ring or range(len(case.points)), case.picks)
+    machine = played(case)
     records = ["record %d %d %d %d" % (*e, *f) for e, f, _, _ in machine.store.dense]
     state = ["refused 8 moves %d left %d" % (machine.moves, len(records)), " ".join(["ring", *map(str, machine.ring)])]
     assert state + records == told.splitlines(), (case.points, case.ring, case.picks)
@@ -277,13 +320,15 @@ def answer(case, line):
     if parts[0].startswith("error"):
         return "refused %d\n" % REFUSAL[parts[0].split()[1]]
     field = dict((p + " ").split(" ", 1) for p in parts[1:])
-    order = "ring" + "".join(" " + k for k in field["ring"].split()) + "\n"
+    named = field["ring"].split()
+    order = " ".join(["ring", *named]) + "\n"
+    tree = tree_line(case, list(map(int, named)))
     if parts[0] == "ok":
-        return "ok moves %d cross %d\n" % (int(field["moves"]), int(field["cross"])) + order
+        return "ok moves %d cross %d\n" % (int(field["moves"]), int(field["cross"])) + order + tree
     assert parts[0] == "out", line
     records = "".join("record %s\n" % " ".join(p.replace("-", " ").split()) for p in field["dense"].split(","))
     told = "refused 8 moves %d left %d\n" % (int(field["moves"]), int(field["left"])) + order + records
-    return told + state_lines(case, told)
+    return told + state_lines(case, told) + tree
 
 
 def encode(case):

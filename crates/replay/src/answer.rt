@@ -3,6 +3,9 @@ use refusal::Refusal;
 use std::io::{self, Write};
 use two_opt::entries::Delivered;
 
+// The most points with which the tree is printed: with more the stored answers would grow large.
+const SMALL: usize = 24;
+
 // `ring A B ..`
 fn write_ring<W: Write>(out: &mut W, ring: &[u16]) -> io::Result<()> {
     write!(out, "ring")?;
@@ -58,7 +61,19 @@ fn write_tangles<W: Write>(out: &mut W, ring: &[u16], tangles: &[u16]) -> io::Re
     writeln!(out)
 }
 
-// What an entry answered, with the ring and the records left, their ages and the counts by edge.
+// `tree A B ..`, the four numbers of each of the 2n-1 boxes, for a small n. Counted here, not as the library counts them, which is on trial.
+fn write_tree<W: Write>(out: &mut W, n: usize, tree: &[i32]) -> io::Result<()> {
+    if SMALL < n {
+        return Ok(());
+    }
+    write!(out, "tree")?;
+    for number in tree.iter().take(4 * (2 * n).saturating_sub(1)) {
+        write!(out, " {number}")?;
+    }
+    writeln!(out)
+}
+
+// What an entry answered, with the ring and the records left, their ages, the counts by edge and the tree.
 pub fn write_answer<W: Write>(
     out: &mut W,
     done: Result<Delivered, Refusal>,
@@ -67,11 +82,13 @@ pub fn write_answer<W: Write>(
     ends: &[u64],
     ages: &[u32],
     tangles: &[u16],
+    tree: &[i32],
 ) -> io::Result<()> {
     match done {
         Ok(Delivered { moves, cross }) => {
             writeln!(out, "ok moves {moves} cross {cross}")?;
-            write_ring(out, ring)
+            write_ring(out, ring)?;
+            write_tree(out, ring.len(), tree)
         }
         Err(refusal @ Refusal::PicksUsedUp { moves, left }) => {
             writeln!(
@@ -83,7 +100,8 @@ pub fn write_answer<W: Write>(
             let slots = &dense[..left.min(dense.len())];
             write_records(out, slots, ends)?;
             write_ages(out, slots, ages)?;
-            write_tangles(out, ring, tangles)
+            write_tangles(out, ring, tangles)?;
+            write_tree(out, ring.len(), tree)
         }
         Err(refusal) => writeln!(out, "refused {}", refusal.number()),
     }

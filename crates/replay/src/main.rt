@@ -5,9 +5,12 @@
 // are as 0 and 1 with one pick, which is made as often as the count says.
 // A case is answered by `ok moves M cross C` and a line `ring A B ..`; or by `refused K`; or by `refused 8 moves M left L`, the ring,
 // a line `record A B C D` for each record left, in dense order (the edges A-B and C-D), a line `ages A B ..` of their ages in that order,
-// and a line `tangles A B ..` of how many records name each edge of the ring, by position. The original has no ages: these are the
-// definition's; the counts are those of its records. A case that is cut off, of another kind, of more than 4,096 picks, or of one made
-// more than 1,000,001 times is answered by `bad case K`, counted from 1, and ends the run.
+// and a line `tangles A B ..` of how many records name each edge of the ring, by position. The last line of an answer with a ring is, for
+// up to 24 points (with more the stored file would grow large), `tree A B ..`: least x, least y, greatest x, greatest y of the 2n-1 boxes
+// over the edges of the ring by position, a node before its whole first half (k/2 of its k edges, rounded down) and that before its second.
+// The original has no ages and no tree: the ages are the definition's; the counts are those of its records, the boxes those of its ring.
+// A case that is cut off, of another kind, of more than 4,096 picks, or of one made more than 1,000,001 times is answered by `bad case K`,
+// counted from 1, and ends the run.
 #![tactic(auto)]
 
 mod answer;

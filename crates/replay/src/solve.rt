@@ -7,10 +7,12 @@ use std::io::{self, Write};
 use two_opt::entries::{Delivered, resolve_self_intersections, two_opt_moves};
 use two_opt::workspace::Workspace;
 
-// What is enough for every call that is not refused: that many points, and a record for each of their pairs in each order.
+// What is enough for every call that is not refused: that many points, a record for each of their pairs in each order, and the numbers of the tree.
 const POINTS: usize = 256;
 
 const RECORDS: usize = POINTS * (POINTS - 1);
+
+const TREE: usize = 4 * (2 * POINTS - 1);
 
 // What a run is lent beside its points, picks and ring. A run starts with whatever the one before it left here.
 #[derive(Drop)]
@@ -24,6 +26,16 @@ pub struct Buffers {
     reverse: Vec<u16>,
     free: Vec<u16>,
     tangles: Vec<u16>,
+    tree: Vec<i32>,
+}
+
+// The picks of a case. The last one listed is made again until there are as many as it says.
+fn picks_of(alloc: Global, case: Case<'_>) -> Result<Vec<u32>, AllocError> {
+    let words = case.picks.iter().map(|w| u32::from_le_bytes(*w));
+    let mut picks = words.collect::<Vec<u32>>(alloc)?;
+    let last = picks.last().copied().unwrap_or(0);
+    picks.resize(case.count, last)?;
+    Ok(picks)
 }
 
 impl Buffers {
@@ -38,6 +50,7 @@ impl Buffers {
             reverse: vec![in alloc; 12; RECORDS]?,
             free: vec![in alloc; 13; RECORDS]?,
             tangles: vec![in alloc; 17; RECORDS]?,
+            tree: vec![in alloc; 19; TREE]?,
         })
     }
 
@@ -62,6 +75,7 @@ impl Buffers {
             reverse: &mut self.reverse,
             free: &mut self.free,
             tangles: &mut self.tangles,
+            tree: &mut self.tree,
         };
         match kind {
             Kind::TwoOptMoves => two_opt_moves(n, x, y, picks, &mut work),
@@ -86,13 +100,7 @@ impl Buffers {
             .iter()
             .map(|p| i32::from_le_bytes(p[1]))
             .collect::<Vec<i32>>(alloc)?;
-        let mut picks = case
-            .picks
-            .iter()
-            .map(|w| u32::from_le_bytes(*w))
-            .collect::<Vec<u32>>(alloc)?;
-        let last = picks.last().copied().unwrap_or(0);
-        picks.resize(case.count, last)?;
+        let picks = picks_of(alloc, case)?;
         let entries = case.ring.iter().map(|w| u16::try_from(u32::from_le_bytes(*w)).unwrap_or(
             u16::MAX,
         ));
@@ -107,6 +115,7 @@ impl Buffers {
             &self.ends,
             &self.ages,
             &self.tangles,
+            &self.tree,
         )
     }
 }
