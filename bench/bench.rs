@@ -1,5 +1,5 @@
 //! The same boards and picks through the proved library and the original Rust, one after the other, in one process.
-//! Prints for each size and make of board the time of both and the ratio, then the growth from n to 2n, then memory.
+//! Prints for each size and make of board the time of both and the ratio, then the growth from n to 2n, pair tests, then memory.
 #[allow(dead_code)] // the benchmark uses a part of the wrapper
 #[path = "../hosts/tour.rs"]
 mod tour;
@@ -63,6 +63,11 @@ fn board(make: &str, n: usize, seed: u32) -> Board {
     Board { points, picks: (0..16_384).map(|_| r.next()).collect() }
 }
 
+/// The first boards of one size and make.
+fn boards(make: &str, n: usize, count: u32) -> impl Iterator<Item = Board> {
+    (0..count).map(move |seed| board(make, n, 7919 * seed + n as u32))
+}
+
 /// The least time of several runs, in nanoseconds: what else the machine does only adds.
 fn least_time(runs: usize, mut run: impl FnMut()) -> u128 {
     let timed = |run: &mut dyn FnMut()| {
@@ -83,9 +88,8 @@ struct Line {
 /// Boards of one size and make, through both; the answers must be equal.
 fn measure(make: &str, n: usize) -> Line {
     let mut sum = Line::default();
-    let (boards, runs) = if n < 128 { (8, 9) } else { (4, 5) };
-    for seed in 0..boards {
-        let b = board(make, n, 7919 * seed + n as u32);
+    let (count, runs) = if n < 128 { (8, 9) } else { (4, 5) };
+    for (seed, b) in boards(make, n, count).enumerate() {
         let [x, y] = b.columns();
         let mut lent = Buffers::new(n);
         let mut answer = Answer::Refused(0);
@@ -98,10 +102,64 @@ fn measure(make: &str, n: usize) -> Line {
         sum.ours += ours;
         sum.theirs += theirs;
     }
-    sum.moves /= boards as usize;
-    sum.ours /= boards as u128;
-    sum.theirs /= boards as u128;
+    sum.moves /= count as usize;
+    sum.ours /= count as u128;
+    sum.theirs /= count as u128;
     sum
+}
+
+/// The edge that starts at a position of a ring, its smaller point first.
+fn edge(ring: &[u16], i: usize) -> [u16; 2] {
+    let [p, q] = [ring[i], ring[(i + 1) % ring.len()]];
+    [p.min(q), p.max(q)]
+}
+
+/// The two edges of a record are on one line: the move for it is a hoist, which puts in three edges. An uncrossing puts in two.
+fn is_hoist(points: &[[i32; 2]], record: [u16; 4]) -> bool {
+    let [a, b, c, d] = record.map(|k| points[k as usize].map(i64::from));
+    [c, d].iter().all(|p| (b[0] - a[0]) * (p[1] - a[1]) == (b[1] - a[1]) * (p[0] - a[0]))
+}
+
+/// The positions of the edges that a move put in: those that are new on the ring, and, where a hoist put one back that it had taken away, the one
+/// between them.
+fn put_in(before: &[u16], after: &[u16], is_hoist: bool) -> Vec<usize> {
+    let n = after.len();
+    let old: Vec<[u16; 2]> = (0..n).map(|i| edge(before, i)).collect();
+    let mut positions: Vec<usize> = (0..n).filter(|&i| !old.contains(&edge(after, i))).collect();
+    if let (true, &[i, j]) = (is_hoist, &positions[..]) {
+        positions.push(if j == i + 2 { i + 1 } else { (j + 1) % n });
+    }
+    assert_eq!(positions.len(), 2 + usize::from(is_hoist));
+    positions
+}
+
+/// The pair tests of a run: those made, and those of the plain scan, in which a search compares an edge with all others. Searched for are each edge
+/// of the ring at the start, and in each move those that it puts in.
+fn pair_tests(b: &Board) -> [usize; 2] {
+    let n = b.points.len();
+    let [x, y] = b.columns();
+    let (mut lent, mut found) = (Buffers::new(n), vec![0; n]);
+    let mut last: Option<(Vec<u16>, bool)> = None;
+    let [mut made, mut plain] = [0, 0];
+    for moves in 0.. {
+        let answer = tour::two_opt_moves(n, &x, &y, &b.picks[..moves], &mut lent);
+        let searches = last.map_or_else(|| (0..n).collect(), |(ring, is_hoist)| put_in(&ring, &lent.ring, is_hoist));
+        plain += searches.len() * (n - 1);
+        for i in searches {
+            made += tour::query(n, &x, &y, &lent.ring, &mut lent.tree, i, &mut found).unwrap().tested;
+        }
+        let Answer::Stopped { left, .. } = answer else { break };
+        let record = lent.records(left).nth(b.picks[moves] as usize % left).unwrap();
+        last = Some((lent.ring.clone(), is_hoist(&b.points, record)));
+    }
+    [made, plain]
+}
+
+/// The same of several boards, in the mean.
+fn mean_pair_tests(make: &str, n: usize) -> [usize; 2] {
+    let count = if n < 128 { 8 } else if n < 256 { 4 } else { 1 };
+    let [made, plain] = boards(make, n, count).map(|b| pair_tests(&b)).fold([0, 0], |sum, of| [sum[0] + of[0], sum[1] + of[1]]);
+    [made, plain].map(|tests| tests / count as usize)
 }
 
 /// The feed of a ring of n points, compared with the standard library's roots: the time of a call, and of one that is refused only at the
@@ -174,11 +232,18 @@ fn main() {
             println!("{make:8} {n:3} to {:3} {:6.1} {:6.1}", 2 * n, grown(l.theirs, twice.theirs), grown(l.ours, twice.ours));
         }
     }
+    println!("\npair tests: made, plain scan, share");
+    for make in MAKES {
+        for n in SIZES {
+            let [made, plain] = mean_pair_tests(make, n);
+            println!("{make:8} {n:3} {made:9} {plain:9} {:6.1} %", 100.0 * made as f64 / plain as f64);
+        }
+    }
     let [fed, refused] = measure_feed(256).map(|t| t as f64 / 1e3);
     println!("\nfeed of 256 points: {fed:.1} us, its checks {refused:.1} us, the roots and their sum {:.1} us", fed - refused);
     println!("\ncheck 4 of 256 points: {:.2} us", measure_ring(256) as f64 / 1e3);
-    println!("\nmemory of a call in bytes: lent (x, y, ring, index, eight buffers of n*(n-1)), picks aside; stack");
+    println!("\nmemory of a call in bytes: lent (x, y, ring, index, eight buffers of n*(n-1), tree), picks aside; stack");
     for n in [48, 256] {
-        println!("n {n:3}: lent {:8} stack {:6}", n * 12 + 30 * n * (n - 1), stack_used(n));
+        println!("n {n:3}: lent {:8} stack {:6}", n * 12 + 30 * n * (n - 1) + 16 * (2 * n - 1), stack_used(n));
     }
 }

@@ -3,26 +3,38 @@
 #include <string.h>
 #include "tour.h"
 
-enum { N = 8, PAIRS = N * (N - 1) };
+enum { N = 8, PAIRS = N * (N - 1), TREE = 4 * (2 * N - 1) };
 
 static uint16_t ring[N + 1], index_of[N], work[5][PAIRS];
 static uint64_t words[2][PAIRS];
 static uint32_t ages[PAIRS], many_picks[1000001];
+static int32_t tree[TREE + 1];
 
 /* One call with all buffers; `room` is the length that the eight work buffers are lent with. */
 static tour_answer call(int from_ring, size_t n, const int32_t *x, const int32_t *y, const uint32_t *picks, size_t picks_len, size_t room) {
     return (from_ring ? tour_resolve_self_intersections : tour_two_opt_moves)(n, x, N, y, N, picks, picks_len, ring, N, index_of, N,
-        work[0], room, words[0], room, words[1], room, ages, room, work[1], room, work[2], room, work[3], room, work[4], room);
+        work[0], room, words[0], room, words[1], room, ages, room, work[1], room, work[2], room, work[3], room, work[4], room,
+        tree, TREE);
 }
 
-/* The edge of the ring that most records name; of several, the first. */
-static void show_worst(size_t n) {
-    unsigned worst[3] = {0, 0, 0};
-    for (size_t i = 0; i < n; i++) {
-        unsigned p = ring[i], q = ring[(i + 1) % n], a = p < q ? p : q, b = p < q ? q : p, count = work[4][b + n * a];
-        if (count > worst[2]) worst[0] = a, worst[1] = b, worst[2] = count;
-    }
-    printf("  worst edge %u-%u, named %u times\n", worst[0], worst[1], worst[2]);
+/* The edge that starts at a position of a ring, its smaller point first. */
+static void show_edge(size_t n, const uint16_t *of, size_t i) {
+    unsigned p = of[i], q = of[(i + 1) % n];
+    printf(" %u-%u", p < q ? p : q, p < q ? q : p);
+}
+
+/* How many records name the edge of the ring that starts at a position. */
+static unsigned named(size_t n, size_t i) {
+    unsigned p = ring[i], q = ring[(i + 1) % n];
+    return work[4][p < q ? q + n * p : p + n * q];
+}
+
+/* The position of the edge that most records name; of several, the first. */
+static size_t worst(size_t n) {
+    size_t at = 0;
+    for (size_t i = 1; i < n; i++)
+        if (named(n, i) > named(n, at)) at = i;
+    return at;
 }
 
 /* The answer, and for a loop or a state the ring, the records left, and the worst edge. */
@@ -36,7 +48,10 @@ static void show(const char *title, size_t n, tour_answer a) {
         uint64_t w = words[0][work[1][i]];
         printf("  record %u-%u %u-%u\n", TOUR_MIN0(w), TOUR_MAX0(w), TOUR_MIN1(w), TOUR_MAX1(w));
     }
-    if (a.code == 8) show_worst(n);
+    if (a.code != 8) return;
+    printf("  worst edge");
+    show_edge(n, ring, worst(n));
+    printf(", named %u times\n", named(n, worst(n)));
 }
 
 /* The records left, the one made first at the front. */
@@ -62,6 +77,25 @@ static void show_list(size_t n, unsigned a, unsigned b) {
         printf(" %u-%u", first ? TOUR_MIN1(w) : TOUR_MIN0(w), first ? TOUR_MAX1(w) : TOUR_MAX0(w));
         s = first ? TOUR_NEXT0(l) : TOUR_NEXT1(l);
     }
+    printf("\n");
+}
+
+/* The box of the k positions from i on, and behind it those of its halves. */
+static void show_tree(size_t i, size_t k, const int32_t *box) {
+    printf("  box of %zu to %zu: %d %d, %d %d\n", i, i + k - 1, (int)box[0], (int)box[1], (int)box[2], (int)box[3]);
+    if (k == 1) return;
+    show_tree(i, k / 2, box + 4);
+    show_tree(i + k / 2, k - k / 2, box + 8 * (k / 2));
+}
+
+/* How many edges of a ring were compared with the one that starts at a position, and which of them meet it. */
+static void show_query(const char *title, size_t n, const int32_t *x, const int32_t *y, const uint16_t *of, size_t tree_len, size_t position) {
+    uint16_t found[N];
+    tour_queried q = tour_query(n, x, N, y, N, of, N, tree, tree_len, position, found, N);
+    printf("%s: ", title);
+    if (q.code != 0) printf("code %u", (unsigned)q.code);
+    else printf("%zu compared, meets", q.tested);
+    for (size_t i = 0; i < q.count; i++) show_edge(n, of, found[i]);
     printf("\n");
 }
 
@@ -111,6 +145,7 @@ int main(void) {
     memset(words, 0xa5, sizeof words);
     memset(ages, 0xa5, sizeof ages);
     ring[N] = 4711;
+    tree[TREE] = 4711;
     show("loop", read.points, call(0, read.points, x, y, picks, read.picks, PAIRS));
     show("no picks", read.points, call(0, read.points, x, y, NULL, 0, PAIRS));
     memcpy(ring, (uint16_t[]){0, 2, 1, 3}, 8);
@@ -128,14 +163,19 @@ int main(void) {
     static const int32_t row_x[N] = {12, 1, 3, 0, 10, 2, 6}, row_y[N] = {0, 0, -5, 0, 0, 0, 5};
     show("a row, one pick", 7, call(0, 7, row_x, row_y, (uint32_t[]){0}, 1, PAIRS));
     show_list(7, 1, 4);
-    tour_answer five = call(0, 5, (const int32_t[N]){2, 0, 2, 0, 2}, (const int32_t[N]){3, 2, 2, 4, 0}, (uint32_t[]){0}, 1, PAIRS);
+    show_query("  worst edge", 7, row_x, row_y, ring, TREE, worst(7));
+    show_query("  first edge", 7, row_x, row_y, ring, TREE, 0);
+    static const int32_t five_x[N] = {2, 0, 2, 0, 2}, five_y[N] = {3, 2, 2, 4, 0};
+    tour_answer five = call(0, 5, five_x, five_y, (uint32_t[]){0}, 1, PAIRS);
     show("five points, one pick", 5, five);
     show_by_age(five.left);
+    show_tree(0, 5, tree);
+    show_query("  worst edge", 5, five_x, five_y, ring, TREE, worst(5));
     show("1000000 picks", 7, call(0, 7, row_x, row_y, many_picks, 1000000, PAIRS));
     show("1000001 picks", 7, call(0, 7, row_x, row_y, many_picks, 1000001, PAIRS));
     show("1000001 picks, too far", 7, call(0, 7, (int32_t[N]){1000000001}, row_y, many_picks, 1000001, PAIRS));
     show("1000001 picks, short buffers", 7, call(0, 7, row_x, row_y, many_picks, 1000001, 41));
-    printf("past the ring: %u\n", ring[N]);
+    printf("past the ring: %u, past the tree: %d\n", ring[N], (int)tree[TREE]);
 
     show_fault("ring", 4, (uint16_t[]){0, 2, 1, 3});
     show_fault("ring, a point named again", 4, (uint16_t[]){0, 2, 2, 3});
@@ -143,13 +183,25 @@ int main(void) {
     show_fault("ring, too many points", 257, (uint16_t[]){0, 2, 1, 3});
     show_fault("ring, short buffer", 5, (uint16_t[]){0, 2, 1, 3});
 
-    static const int32_t wide[] = {0, 3, 3, 0}, too_wide[] = {0, 3, 3, 1000000001};
+    static const int32_t wide[N] = {0, 3, 3, 0}, too_wide[N] = {0, 3, 3, 1000000001}, tall[N] = {0, 0, 4, 4};
     show_feed("feed around", 4, wide, 4, (uint16_t[]){0, 1, 2, 3});
     show_feed("feed across", 4, wide, 4, (uint16_t[]){0, 2, 1, 3});
     show_feed("feed, too many points", 257, wide, 4, (uint16_t[]){0, 1, 2, 3});
     show_feed("feed, short buffer", 4, wide, 3, (uint16_t[]){0, 1, 2, 3});
     show_feed("feed, too far", 4, too_wide, 4, (uint16_t[]){0, 1, 2, 3});
     show_feed("feed, no ring", 4, wide, 4, (uint16_t[]){0, 2, 2, 3});
+
+    static const uint16_t around[N] = {0, 1, 2, 3}, across[N] = {0, 2, 1, 3}, twice[N] = {0, 2, 2, 3};
+    show_query("query around", 4, wide, tall, around, TREE, 0);
+    show_query("query across", 4, wide, tall, across, TREE, 0);
+    show_query("query, too many points", 257, wide, tall, across, TREE, 0);
+    show_query("query, short tree", 4, wide, tall, across, 27, 0);
+    show_query("query, no such position", 4, wide, tall, across, TREE, 4);
+    show_query("query, too far", 4, too_wide, tall, across, TREE, 0);
+    show_query("query, no ring", 4, wide, tall, twice, TREE, 0);
+    show_query("query, equal points", 4, tall, tall, across, TREE, 0);
+    show_query("query, two points", 2, wide, tall, around, TREE, 0);
+    show_query("query, one line", 4, row_x, row_x, across, TREE, 0);
 
     show_contact("a touch", (const int32_t[]){0, 0, 4, 0, 2, 0, 2, 3});
     show_contact("a fold", (const int32_t[]){0, 0, 4, 0, 4, 0, 2, 0});

@@ -1,9 +1,15 @@
 //! A Rust host: the same calls as example.c, through the safe wrapper, with the same output. scripts/hosts.sh runs it.
 mod tour;
 
-use tour::{Answer, Buffers, Contact, End};
+use tour::{Answer, Buffers, Contact, End, Queried};
 
-/// The answer, and for a loop or a state the ring, the records left, and the edge that most of them name; of several, the first.
+/// The position of the edge that most records name; of several, the first.
+fn worst(n: usize, lent: &Buffers) -> usize {
+    let counts: Vec<u16> = lent.tangles(n).map(|(_, count)| count).collect();
+    (0..n).reduce(|at, i| if counts[i] > counts[at] { i } else { at }).unwrap_or(0)
+}
+
+/// The answer, and for a loop or a state the ring, the records left, and the worst edge.
 fn show(title: &str, n: usize, answer: Answer, lent: &Buffers) {
     let (code, moves, cross, left) = match answer {
         Answer::Delivered { moves, cross } => (0, moves, cross, 0),
@@ -18,9 +24,31 @@ fn show(title: &str, n: usize, answer: Answer, lent: &Buffers) {
     for [a, b, c, d] in lent.records(left) {
         println!("  record {a}-{b} {c}-{d}");
     }
-    let worst = lent.tangles(n).reduce(|worst, edge| if edge.1 > worst.1 { edge } else { worst });
-    if let (8, Some(([a, b], count))) = (code, worst) {
+    if let (8, Some(([a, b], count))) = (code, lent.tangles(n).nth(worst(n, lent))) {
         println!("  worst edge {a}-{b}, named {count} times");
+    }
+}
+
+/// The box of the k positions from i on, and behind it those of its halves.
+fn show_tree(i: usize, k: usize, boxes: &[[i32; 4]]) {
+    let [left, low, right, high] = boxes[0];
+    println!("  box of {i} to {}: {left} {low}, {right} {high}", i + k - 1);
+    if k > 1 {
+        show_tree(i, k / 2, &boxes[1..]);
+        show_tree(i + k / 2, k - k / 2, &boxes[2 * (k / 2)..]);
+    }
+}
+
+/// How many edges of a ring were compared with the one that starts at a position, and which of them meet it.
+fn show_query(title: &str, n: usize, x: &[i32], y: &[i32], ring: &[u16], tree: &mut [i32], position: usize) {
+    let mut found = [0; 8];
+    match tour::query(n, x, y, ring, tree, position, &mut found) {
+        Ok(Queried { found, tested }) => {
+            let ends = |&i: &u16| [ring[i as usize], ring[(i as usize + 1) % n]];
+            let met: Vec<String> = found.iter().map(ends).map(|[p, q]| format!(" {}-{}", p.min(q), p.max(q))).collect();
+            println!("{title}: {tested} compared, meets{}", met.concat());
+        }
+        Err(code) => println!("{title}: code {code}"),
     }
 }
 
@@ -53,6 +81,7 @@ fn main() {
     let picks = &all_picks[..used];
     let mut lent = Buffers::new(8);
     lent.ring.push(4711);
+    lent.tree.push(4711);
     let a = tour::two_opt_moves(n, &x, &y, picks, &mut lent);
     show("loop", n, a, &lent);
     let a = tour::two_opt_moves(n, &x, &y, &[], &mut lent);
@@ -83,7 +112,11 @@ fn main() {
     show("a row, one pick", 7, a, &lent);
     let meeting: Vec<String> = lent.meeting(7, [1, 4]).map(|[a, b]| format!(" {a}-{b}")).collect();
     println!("  1-4 meets{}", meeting.concat());
-    let a = tour::two_opt_moves(5, &[2, 0, 2, 0, 2], &[3, 2, 2, 4, 0], &[0], &mut lent);
+    let at = worst(7, &lent);
+    show_query("  worst edge", 7, &row.0, &row.1, &lent.ring, &mut lent.tree, at);
+    show_query("  first edge", 7, &row.0, &row.1, &lent.ring, &mut lent.tree, 0);
+    let five = ([2, 0, 2, 0, 2], [3, 2, 2, 4, 0]);
+    let a = tour::two_opt_moves(5, &five.0, &five.1, &[0], &mut lent);
     show("five points, one pick", 5, a, &lent);
     let Answer::Stopped { left, .. } = a else { panic!("a loop") };
     let mut by_age: Vec<(u32, [u16; 4])> = lent.ages(left).zip(lent.records(left)).collect();
@@ -91,6 +124,9 @@ fn main() {
     for (age, [a, b, c, d]) in by_age {
         println!("  age {age} {a}-{b} {c}-{d}");
     }
+    show_tree(0, 5, tour::boxes(&lent.tree));
+    let at = worst(5, &lent);
+    show_query("  worst edge", 5, &five.0, &five.1, &lent.ring, &mut lent.tree, at);
     let many = vec![0; 1_000_001];
     let a = tour::two_opt_moves(7, &row.0, &row.1, &many[1..], &mut lent);
     show("1000000 picks", 7, a, &lent);
@@ -103,7 +139,7 @@ fn main() {
     short.index.push(0);
     let a = tour::two_opt_moves(7, &row.0, &row.1, &many, &mut short);
     show("1000001 picks, short buffers", 7, a, &short);
-    println!("past the ring: {}", lent.ring[8]);
+    println!("past the ring: {}, past the tree: {}", lent.ring[8], lent.tree[60]);
 
     for (title, n, ring) in [
         ("ring", 4, [0, 2, 1, 3]),
@@ -131,6 +167,22 @@ fn main() {
     ] {
         let fed = tour::feed(n, x, &y, &ring);
         println!("{title}: code {} feed {}", code(fed), fed.unwrap_or(0));
+    }
+
+    let (around, across, twice) = ([0, 1, 2, 3], [0, 2, 1, 3], [0, 2, 2, 3]);
+    for (title, n, x, y, ring, room, position) in [
+        ("query around", 4, &wide, &y, &around, 60, 0),
+        ("query across", 4, &wide, &y, &across, 60, 0),
+        ("query, too many points", 257, &wide, &y, &across, 60, 0),
+        ("query, short tree", 4, &wide, &y, &across, 27, 0),
+        ("query, no such position", 4, &wide, &y, &across, 60, 4),
+        ("query, too far", 4, &too_wide, &y, &across, 60, 0),
+        ("query, no ring", 4, &wide, &y, &twice, 60, 0),
+        ("query, equal points", 4, &y, &y, &across, 60, 0),
+        ("query, two points", 2, &wide, &y, &around, 60, 0),
+        ("query, one line", 4, &[12, 1, 3, 0], &[12, 1, 3, 0], &across, 60, 0),
+    ] {
+        show_query(title, n, x, y, ring, &mut lent.tree[..room], position);
     }
 
     for (title, a, b) in [

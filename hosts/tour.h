@@ -5,7 +5,7 @@
  * buffer of the same call. Everything else is checked before anything is written, in the order 1, 2, 19, 3 to 7 (a job: 9 to 13, then 2):
  *
  *    1  more than 256 points
- *    2  a buffer shorter than the call needs
+ *    2  a buffer shorter than the call needs, or an edge's position that is n or more
  *    3  a coordinate outside -1000000000 .. 1000000000, or a bare segment with equal ends
  *    4  a lent ring that does not name each point once (tour_ring_fault tells which entry is wrong)
  *    5  two equal points          6  fewer than three points          7  every vertex on one line with its neighbours
@@ -32,6 +32,7 @@ typedef struct {
 /* The entries of n points. They need
  *    x, y, ring, index           n elements each
  *    heads .. tangles (eight)    n * (n - 1) elements each, none for n = 0
+ *    tree                        4 * (2 * n - 1) elements, none for n = 0
  * and never touch an element past those. picks has at most 1000000 elements. Work buffers may hold anything at first; ring too, but in
  * tour_resolve_self_intersections, which starts from it. x, y and picks are only read.
  * Code 0: ring[0 .. n-1] is the loop, counter-clockwise, and index is its inverse. tangles is 0 at each of its n * (n - 1) places.
@@ -44,7 +45,11 @@ typedef struct {
  * along each edge's list ages fall.
  * heads[b + n * a] is the slot of the newest record that names the edge of a and b, a < b; TOUR_NONE for none. tangles[b + n * a] is how many records left
  * name it, and 0 at the places of no edge; over the edges of the ring these come to 2 * left.
- * reverse[s] is where a live slot stands in dense. Entries of other slots mean nothing. */
+ * reverse[s] is where a live slot stands in dense. Entries of other slots mean nothing.
+ * Code 0 and 8: tree holds 2 * n - 1 boxes over the positions of the ring that is left, each of four numbers: least x, least y, greatest x,
+ * greatest y. The box of position i is that of the edge from ring[i] to the next point of the ring. The first box covers all positions. A box of
+ * more than one position is the union of its two halves, the first half having the rounded-down share. A box stands before its whole first half, and
+ * that before the second: the halves of a box of k positions stand 4 and 8 * (k / 2) elements behind it. */
 #define TOUR_NONE 65535
 #define TOUR_PART(word, k) ((uint16_t)((word) >> 16 * (k)))
 #define TOUR_MIN0(ends) TOUR_PART(ends, 0)
@@ -61,7 +66,7 @@ typedef struct {
     uint16_t *ring, size_t ring_len, uint16_t *index, size_t index_len, uint16_t *heads, size_t heads_len, \
     uint64_t *ends, size_t ends_len, uint64_t *links, size_t links_len, uint32_t *ages, size_t ages_len, \
     uint16_t *dense, size_t dense_len, uint16_t *reverse, size_t reverse_len, uint16_t *release, size_t release_len, \
-    uint16_t *tangles, size_t tangles_len
+    uint16_t *tangles, size_t tangles_len, int32_t *tree, size_t tree_len
 
 /* A loop through the points, starting in their own order 0, 1, 2, .. */
 tour_answer tour_two_opt_moves(TOUR_WORK);
@@ -88,6 +93,20 @@ typedef struct {
 /* The feed of the loop that ring[0 .. n-1] names, delivered or not: the sum over its edges of the greatest whole f with f * f at most
  * dx * dx + dy * dy. x, y and ring need n elements each and are only read. No loop has a feed of 2^40 or more. */
 tour_fed tour_feed(size_t n, const int32_t *x, size_t x_len, const int32_t *y, size_t y_len, const uint16_t *ring, size_t ring_len);
+
+/* code 0: count edges meet the one asked for, and tested edges were compared with it. Any other code: a refusal (1 to 7). What a code does not
+ * name is 0. */
+typedef struct {
+    uint32_t code;
+    size_t count, tested;
+} tour_queried;
+
+/* Which edges of the ring meet the edge that starts at a position, elsewhere than in an end of both: found[0 .. count-1] are the positions where
+ * they start, in ascending order, the edge itself left out. Compared with it are exactly the other edges whose box shares a place with its box.
+ * x, y, ring and found need n elements each, tree 4 * (2 * n - 1); x, y and ring are only read. The tree is built anew in the call: it may hold
+ * anything at first, and is that of the ring afterwards. Of found only the first count elements are written. */
+tour_queried tour_query(size_t n, const int32_t *x, size_t x_len, const int32_t *y, size_t y_len, const uint16_t *ring, size_t ring_len,
+    int32_t *tree, size_t tree_len, size_t position, uint16_t *found, size_t found_len);
 
 /* How two segments meet elsewhere than in an end of both. */
 enum { TOUR_APART, TOUR_CROSSING, TOUR_OVERLAP };

@@ -24,6 +24,13 @@ mod raw {
     }
 
     #[repr(C)]
+    pub struct Queried {
+        pub code: u32,
+        pub count: usize,
+        pub tested: usize,
+    }
+
+    #[repr(C)]
     pub struct End {
         pub x: i32,
         pub y: i32,
@@ -53,9 +60,11 @@ mod raw {
                     ring: *mut u16, ring_len: usize, index: *mut u16, index_len: usize, heads: *mut u16, heads_len: usize,
                     ends: *mut u64, ends_len: usize, links: *mut u64, links_len: usize, ages: *mut u32, ages_len: usize,
                     dense: *mut u16, dense_len: usize, reverse: *mut u16, reverse_len: usize, free: *mut u16, free_len: usize,
-                    tangles: *mut u16, tangles_len: usize) -> Answer;)*
+                    tangles: *mut u16, tangles_len: usize, tree: *mut i32, tree_len: usize) -> Answer;)*
                 pub fn tour_ring_fault(n: usize, ring: *const u16, ring_len: usize) -> Fault;
                 pub fn tour_feed(n: usize, x: *const i32, x_len: usize, y: *const i32, y_len: usize, ring: *const u16, ring_len: usize) -> Fed;
+                pub fn tour_query(n: usize, x: *const i32, x_len: usize, y: *const i32, y_len: usize, ring: *const u16, ring_len: usize,
+                    tree: *mut i32, tree_len: usize, position: usize, found: *mut u16, found_len: usize) -> Queried;
                 pub safe fn tour_contact(a1x: i32, a1y: i32, a2x: i32, a2y: i32, b1x: i32, b1y: i32, b2x: i32, b2y: i32) -> Kind;
                 pub safe fn tour_meets(a1x: i32, a1y: i32, a2x: i32, a2y: i32, b1x: i32, b1y: i32, b2x: i32, b2y: i32) -> u32;
                 pub fn tour_read_job(job: *const u8, job_len: usize, x: *mut i32, x_len: usize, y: *mut i32, y_len: usize,
@@ -89,6 +98,7 @@ pub struct Buffers {
     reverse: Vec<u16>,
     free: Vec<u16>,
     tangles: Vec<u16>,
+    pub tree: Vec<i32>,
 }
 
 impl Buffers {
@@ -97,7 +107,8 @@ impl Buffers {
         let pairs = n * n.saturating_sub(1);
         let [heads, dense, reverse, free, tangles] = std::array::from_fn(|_| vec![0; pairs]);
         let [ends, links] = std::array::from_fn(|_| vec![0; pairs]);
-        Buffers { ring: vec![0; n], index: vec![0; n], ends, links, ages: vec![0; pairs], heads, dense, reverse, free, tangles }
+        let tree = vec![0; 4 * (2 * n).saturating_sub(1)];
+        Buffers { ring: vec![0; n], index: vec![0; n], ends, links, ages: vec![0; pairs], heads, dense, reverse, free, tangles, tree }
     }
 
     /// The edges of the first records in dense order; after `Stopped { left, .. }` the first `left` are those left.
@@ -132,6 +143,11 @@ impl Buffers {
     }
 }
 
+/// The boxes of a tree, in the order that tour.h tells, each of least x, least y, greatest x, greatest y.
+pub fn boxes(tree: &[i32]) -> &[[i32; 4]] {
+    tree.as_chunks().0
+}
+
 /// The four parts of a record's word, the lowest first.
 fn parts(word: u64) -> [u16; 4] {
     std::array::from_fn(|k| (word >> (16 * k)) as u16)
@@ -140,13 +156,13 @@ fn parts(word: u64) -> [u16; 4] {
 macro_rules! call {
     ($entry:ident, $n:expr, $x:expr, $y:expr, $picks:expr, $lent:expr) => {{
         let (x, y, picks): (&[i32], &[i32], &[u32]) = ($x, $y, $picks);
-        let Buffers { ring, index, ends, links, ages, heads, dense, reverse, free, tangles } = $lent;
+        let Buffers { ring, index, ends, links, ages, heads, dense, reverse, free, tangles, tree } = $lent;
         // SAFETY: every pointer and length is of a live slice, and the borrow checker keeps the `&mut` ones apart.
         let answer = unsafe {
             raw::$entry($n, x.as_ptr(), x.len(), y.as_ptr(), y.len(), picks.as_ptr(), picks.len(), ring.as_mut_ptr(), ring.len(),
                 index.as_mut_ptr(), index.len(), heads.as_mut_ptr(), heads.len(), ends.as_mut_ptr(), ends.len(),
                 links.as_mut_ptr(), links.len(), ages.as_mut_ptr(), ages.len(), dense.as_mut_ptr(), dense.len(), reverse.as_mut_ptr(), reverse.len(),
-                free.as_mut_ptr(), free.len(), tangles.as_mut_ptr(), tangles.len())
+                free.as_mut_ptr(), free.len(), tangles.as_mut_ptr(), tangles.len(), tree.as_mut_ptr(), tree.len())
         };
         match answer.code {
             0 => Answer::Delivered { moves: answer.moves, cross: answer.cross },
@@ -183,6 +199,35 @@ pub fn feed(n: usize, x: &[i32], y: &[i32], ring: &[u16]) -> Result<u64, u32> {
     // SAFETY: as above.
     let fed = unsafe { raw::tour_feed(n, x.as_ptr(), x.len(), y.as_ptr(), y.len(), ring.as_ptr(), ring.len()) };
     if fed.code == 0 { Ok(fed.feed) } else { Err(fed.code) }
+}
+
+/// What a query finds.
+#[derive(Clone, Copy, Debug, PartialEq, Eq)]
+pub struct Queried<'a> {
+    /// The positions where the edges start that meet the one asked for, in ascending order.
+    pub found: &'a [u16],
+    /// How many edges were compared with it: the others whose box shares a place with its box.
+    pub tested: usize,
+}
+
+/// Which edges of the loop that the ring's first n entries name meet the edge that starts at a position, elsewhere than in an end of both. The
+/// tree may hold anything at first, and is that of the ring afterwards. The error is the number of the refusal: 1 to 7, 2 also for a position of n
+/// or more.
+pub fn query<'a>(
+    n: usize,
+    x: &[i32],
+    y: &[i32],
+    ring: &[u16],
+    tree: &mut [i32],
+    position: usize,
+    found: &'a mut [u16],
+) -> Result<Queried<'a>, u32> {
+    // SAFETY: as above.
+    let queried = unsafe {
+        raw::tour_query(n, x.as_ptr(), x.len(), y.as_ptr(), y.len(), ring.as_ptr(), ring.len(), tree.as_mut_ptr(), tree.len(), position,
+            found.as_mut_ptr(), found.len())
+    };
+    if queried.code == 0 { Ok(Queried { found: &found[..queried.count], tested: queried.tested }) } else { Err(queried.code) }
 }
 
 /// An end of an overlap; an open one is an end of both segments.
