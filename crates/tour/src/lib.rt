@@ -53,8 +53,7 @@ fn tell(
 }
 
 // Writes the text of the answer to the points and the picks. The buffers have room for 48 points: 48×47 places for records, 4×95 numbers for
-// the tree. They are arrays, since a library uses
-// no heap.
+// the tree. They are arrays, since a library uses no heap.
 fn deliver(points: Points<'_>, picks: &[u32], out: &mut [u8]) -> usize
     requires { (points.n ≤ 48) × (2216 ≤ length out.old) }
     ensures put { Put out.old 0 (run_text points.entry.n (spots points.entry) picks.now) result out.new }

@@ -1,5 +1,4 @@
-// What a move does to the ring (two_opt.rs, in `untangle`): the edges that it removes, those that it inserts, the new order, and its
-// tree.
+// What a move does to the ring (two_opt.rs, in `untangle`): the edges that it removes, those that it inserts, the new order, its tree.
 ghost use Rattle.std.specs.Prelude.{◌≡◌, List, ℕ, length, map};
 ghost use Rattle.geometry.specs.Spots.{spots};
 ghost use Rattle.index_edge.specs.Number.{edge_of};
