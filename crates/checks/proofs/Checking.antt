@@ -14,14 +14,15 @@ use Rattle.algebra.specs.Cases.{both, or_parts, and_left, and_right, not_false, 
 use Rattle.algebra.specs.Ranges.{all_below, all_true, up_from}
 use Rattle.geometry.specs.Plane.{Point, near_point, near}
 use Rattle.geometry.specs.Lent.{points, Lent, coord}
-use Rattle.polygon.specs.Ring.{at, each_once}
+use Rattle.polygon.specs.Ring.{at, each_once, IsRing}
 use Rattle.polygon.proofs.Index.{list_at, first_ring}
-use Rattle.polygon.proofs.EachOnce.{ring_each}
-use Rattle.machine.specs.Board.{is_straight_line}
+use Rattle.polygon.proofs.EachOnce.{each_ring, ring_each}
+use Rattle.machine.specs.Board.{is_straight_line, Distinct}
 use Rattle.machine.specs.Answer.{in_range, none_alike, refusal}
+use Rattle.machine.proofs.Accepted.{alike_distinct}
 use Rattle.geometry.specs.Spots.{spots}
 use Rattle.geometry.specs.declared.lent.Points.{Points}
-use Rattle.checks.specs.Checks.{any_below, early, first_four, late, Of}
+use Rattle.checks.specs.Checks.{any_below, early, first_four, first_six, late, WithRing, Of}
 use Rattle.std.proofs.Common.{Bor}
 
 -- what is told of a part that starts at 0 and of its length is told of the first n entries
@@ -58,6 +59,48 @@ four_few false false false true b4 h = absurd (omega arith)
 four_few false false false false true h = absurd (omega arith)
 four_few false false false false false h = (refl, refl)
 
+six_few : (b1 b2 b19 b3 b4 b5 b6 : Bool) → one_to_three b1 b2 b19 b3 (cond b4 4 (five_six b5 b6 0)) ≡ 0 → (one_to_three b1 b2 b19 b3 (cond b4 4 0) ≡ 0) × (five_six b5 b6 0 ≡ 0)
+six_few true b2 b19 b3 b4 b5 b6 h = absurd (omega arith)
+six_few false true b19 b3 b4 b5 b6 h = absurd (omega arith)
+six_few false false true b3 b4 b5 b6 h = absurd (omega arith)
+six_few false false false true b4 b5 b6 h = absurd (omega arith)
+six_few false false false false true b5 b6 h = absurd (omega arith)
+six_few false false false false false b5 b6 h = (refl, h)
+
+six_least : (b1 b2 b3 b4 b5 b6 : Bool) → one_to_three b1 b2 false b3 (cond b4 4 (five_six b5 b6 0)) ≤ 6
+six_least true b2 b3 b4 b5 b6 = omega arith
+six_least false true b3 b4 b5 b6 = omega arith
+six_least false false true b4 b5 b6 = omega arith
+six_least false false false true b5 b6 = omega arith
+six_least false false false false true b6 = omega arith
+six_least false false false false false true = omega arith
+six_least false false false false false false = omega arith
+
+six_alone : (b1 b2 b19 b3 b4 b5 b6 : Bool) (k : ℕ) → one_to_three b1 b2 b19 b3 (cond b4 4 (five_six b5 b6 k)) ≡ 0 → one_to_three b1 b2 b19 b3 (cond b4 4 (five_six b5 b6 0)) ≡ 0
+six_alone true b2 b19 b3 b4 b5 b6 k h = h
+six_alone false true b19 b3 b4 b5 b6 k h = h
+six_alone false false true b3 b4 b5 b6 k h = h
+six_alone false false false true b4 b5 b6 k h = h
+six_alone false false false false true b5 b6 k h = h
+six_alone false false false false false true b6 k h = h
+six_alone false false false false false false true k h = h
+six_alone false false false false false false false k h = refl
+
+at_six : (b1 b2 b19 b3 b4 b5 b6 : Bool) (k : ℕ) → 0 < one_to_three b1 b2 b19 b3 (cond b4 4 (five_six b5 b6 0)) → one_to_three b1 b2 b19 b3 (cond b4 4 (five_six b5 b6 k)) ≡ one_to_three b1 b2 b19 b3 (cond b4 4 (five_six b5 b6 0))
+at_six true b2 b19 b3 b4 b5 b6 k h = refl
+at_six false true b19 b3 b4 b5 b6 k h = refl
+at_six false false true b3 b4 b5 b6 k h = refl
+at_six false false false true b4 b5 b6 k h = refl
+at_six false false false false true b5 b6 k h = refl
+at_six false false false false false true b6 k h = refl
+at_six false false false false false false true k h = refl
+at_six false false false false false false false k h = absurd (omega arith)
+
+late_few : (b5 b6 : Bool) → five_six b5 b6 0 ≡ 0 → (b5 ≡ false) × (b6 ≡ false)
+late_few true b6 h = absurd (omega arith)
+late_few false true h = absurd (omega arith)
+late_few false false h = (refl, refl)
+
 at_late : (b5 b6 : Bool) (k : ℕ) → 0 < five_six b5 b6 0 → five_six b5 b6 k ≡ five_six b5 b6 0
 at_late true b6 k h = refl
 at_late false true k h = refl
@@ -80,6 +123,32 @@ module _ (n : ℕ) (pt : ℕ → Point) (s m : Bool) (r : List ℕ) where
 
   pub four_passed : first_four n pt s m r ≡ 0 → (early n pt s m ≡ 0) × (each_once n r ≡ true)
   four_passed h = let k = four_few (ltb 256 n) s m (not (in_range n pt)) (not (each_once n r)) h in (k.0, not_false _ k.1)
+
+  -- what passes all six passes the first four, and those behind them
+  pub six_passed : first_six n pt s m r ≡ 0 → (first_four n pt s m r ≡ 0) × (late n pt ≡ 0)
+  six_passed = six_few (ltb 256 n) s m (not (in_range n pt)) (not (each_once n r)) (not (none_alike n pt)) (ltb n 3)
+
+  -- the first six refuse with the number of all checks
+  pub refused_by_six : 0 < first_six n pt s m r → refusal n pt s m r ≡ first_six n pt s m r
+  refused_by_six = at_six (ltb 256 n) s m (not (in_range n pt)) (not (each_once n r)) (not (none_alike n pt)) (ltb n 3) line
+
+  -- what passes all checks passes the first six
+  pub six_of_all : refusal n pt s m r ≡ 0 → first_six n pt s m r ≡ 0
+  six_of_all = six_alone (ltb 256 n) s m (not (in_range n pt)) (not (each_once n r)) (not (none_alike n pt)) (ltb n 3) line
+
+  -- where there are not too many picks their number is at most 6
+  pub six_small : first_six n pt s false r ≤ 6
+  six_small = six_least (ltb 256 n) s (not (in_range n pt)) (not (each_once n r)) (not (none_alike n pt)) (ltb n 3)
+
+  module _ (h : first_six n pt s m r ≡ 0) where
+    pub six_ring : IsRing n r
+    six_ring = each_ring n r (four_passed (six_passed h).0).1
+
+    pub six_distinct : Distinct n pt
+    six_distinct = alike_distinct n pt (not_false _ (late_few (not (none_alike n pt)) (ltb n 3) (six_passed h).1).0)
+
+    pub six_three : 3 ≤ n
+    six_three = ltb-false n 3 (late_few (not (none_alike n pt)) (ltb n 3) (six_passed h).1).1
 
   -- the checks before that of the ring pass
   module _ (ok : early n pt s m ≡ 0) where
@@ -116,6 +185,30 @@ module _ {n : ℕ} {x y : Bor (List ℤ)} (p : Points) (o : Of n x y p) where
 
   pub same_line : (r : ℕ → List ℕ) → all_below p.n (is_straight_line p.n (spots p) (r p.n)) ≡ all_below n (is_straight_line n (points x.now y.now) (r n))
   same_line r = λ t. all_below (o.0 t) (is_straight_line (o.0 t) (points (o.1 t).now (o.2 t).now) (r (o.0 t)))
+
+-- ---- the numbers of a call that is lent points and a ring to be read
+module _ (n : ℕ) (x y : Bor (List ℤ)) (r : List ℕ) where
+  -- check 2 of it
+  abbrev ring_short : Bool
+  ring_short = any_below n (length x.now ∷ length y.now ∷ length r ∷ [])
+
+  -- with more than 256 points the lengths do not matter
+  same_four : {s m : Bool} → (n ≤ 256 → s ≡ ring_short) → m ≡ false → first_four n (points x.now y.now) s m (take n r) ≡ first_four n (points x.now y.now) ring_short false (take n r)
+  same_four h e = grind arith
+
+  same_six : {s m : Bool} → (n ≤ 256 → s ≡ ring_short) → m ≡ false → first_six n (points x.now y.now) s m (take n r) ≡ first_six n (points x.now y.now) ring_short false (take n r)
+  same_six h e = grind arith
+
+  module _ {gn : ℕ} {gx gy : Bor (List ℤ)} {short many : Bool} (w : WithRing n x y r gn gx gy short many) where
+    pub four_given : first_four gn (points gx.now gy.now) short many (take gn r) ≡ first_four n (points x.now y.now) ring_short false (take n r)
+    four_given = (λ t. first_four (w.size t) (points (w.in_x t).now (w.in_y t).now) short many (take (w.size t) r)) ∙ same_four w.lengths w.no_picks
+
+    pub six_given : first_six gn (points gx.now gy.now) short many (take gn r) ≡ first_six n (points x.now y.now) ring_short false (take n r)
+    six_given = (λ t. first_six (w.size t) (points (w.in_x t).now (w.in_y t).now) short many (take (w.size t) r)) ∙ same_six w.lengths w.no_picks
+
+    -- the points that pass are those that are lent
+    pub of_given : (p : Points) → Of gn gx gy p → Of n x y p
+    of_given p o = (o.0 ∙ w.size, o.1 ∙ w.in_x, o.2 ∙ w.in_y)
 
 -- none of the lengths is below the size
 pub long : (size : ℕ) (ls : List ℕ) → any_below size ls ≡ false → (i : ℕ) → i < length ls → size ≤ get_or ls i 0

@@ -1,5 +1,5 @@
 -- The checks of a call, as the code takes them: check 2 over the lent lengths, and the checks before and after that of the ring.
-use Rattle.std.specs.Prelude.{◌≡◌, ℤ, Bool, false, not, ◌||◌, cond, List, [], ◌∷◌, ℕ, ◌-◌, ◌*◌, ltb}
+use Rattle.std.specs.Prelude.{◌≡◌, ℤ, Bool, false, not, ◌||◌, cond, List, [], ◌∷◌, ℕ, ◌-◌, ◌*◌, ◌≤◌, ltb, length}
 use Rattle.std.proofs.Common.{Bor}
 use Rattle.geometry.specs.Plane.{Point}
 use Rattle.geometry.specs.declared.lent.Points.{Points}
@@ -26,6 +26,19 @@ first_four n pt s m r = cond (ltb 256 n) 1 (cond s 2 (cond m 19 (cond (not (in_r
 -- checks 5 and 6
 abbrev pub late : ℕ → (ℕ → Point) → ℕ
 late n pt = cond (not (none_alike n pt)) 5 (cond (ltb n 3) 6 0)
+
+-- all six
+abbrev pub first_six : ℕ → (ℕ → Point) → Bool → Bool → List ℕ → ℕ
+first_six n pt s m r =
+    cond (ltb 256 n) 1 (cond s 2 (cond m 19 (cond (not (in_range n pt)) 3 (cond (not (each_once n r)) 4 (cond (not (none_alike n pt)) 5 (cond (ltb n 3) 6 0))))))
+
+-- what a call gives that is lent points and a ring to be read: check 2 covers these, and there are no picks
+pub record WithRing (n : ℕ) (x y : Bor (List ℤ)) (ring : List ℕ) (gn : ℕ) (gx gy : Bor (List ℤ)) (short many : Bool) : Type 0 where
+  pub size : gn ≡ n
+  pub in_x : gx ≡ x
+  pub in_y : gy ≡ y
+  pub lengths : n ≤ 256 → short ≡ any_below n (length x.now ∷ length y.now ∷ length ring ∷ [])
+  pub no_picks : many ≡ false
 
 -- the points of a call that passed: the first n of what is lent
 abbrev pub Of : ℕ → Bor (List ℤ) → Bor (List ℤ) → Points → Type 0

@@ -73,7 +73,22 @@ impl<'a> Given<'a> {
     ghost use Rattle.geometry.specs.Lent.{points};
     ghost use Rattle.machine.specs.Answer.{refusal};
     ghost use Rattle.refusal.specs.Number.{refused};
-    ghost use Rattle.checks.specs.Checks.{early as early_checks, first_four, Of};
+    ghost use Rattle.checks.specs.Checks.{early as early_checks, first_four, first_six, WithRing, Of};
+
+    // A call that is lent points and a ring to be read, and no picks.
+    pub fn with_ring(n: usize, x: &'a [i32], y: &'a [i32], ring: &[u16]) -> Given<'a>
+        ensures { WithRing n x.entry y.entry ring.now result.n result.x result.y result.short result.many }
+    {
+        let short = too_short(n, &[x.len(), y.len(), ring.len()], &[]);
+        let many = false;
+        Given {
+            n,
+            x,
+            y,
+            short,
+            many,
+        }
+    }
 
     // Checks 1, 2, 19 and 3.
     fn early(self) -> Result<Points<'a>, Refusal>
@@ -115,6 +130,17 @@ impl<'a> Given<'a> {
         Ok(points)
     }
 
+    // These and checks 5 and 6.
+    pub fn first_six(self, ring: &[u16]) -> Result<Points<'a>, Refusal>
+        requires { self.n ≤ 256 → self.short ≡ false → self.n ≤ length ring.now }
+        ensures number { refused result ≡ first_six self.entry.n (points self.entry.x.now self.entry.y.now) self.entry.short self.entry.many (take self.entry.n ring.now) }
+        ensures passed { IfOk result (Of self.entry.n self.entry.x self.entry.y) }
+    {
+        let points = self.first_four(ring)?;
+        late(points)?;
+        Ok(points)
+    }
+
     // All checks of a start from the points in their own order. Not one with `check_ring`: no ring is written before they are through, so there is none to ask.
     pub fn check_in_order(self) -> Result<Points<'a>, Refusal>
         ensures number { refused result ≡ refusal self.entry.n (points self.entry.x.now self.entry.y.now) self.entry.short self.entry.many (up_from 0 self.entry.n) }
@@ -134,8 +160,7 @@ impl<'a> Given<'a> {
         ensures number { refused result ≡ refusal self.entry.n (points self.entry.x.now self.entry.y.now) self.entry.short self.entry.many (take self.entry.n ring.now) }
         ensures passed { IfOk result (Of self.entry.n self.entry.x self.entry.y) }
     {
-        let points = self.first_four(ring)?;
-        late(points)?;
+        let points = self.first_six(ring)?;
         if all_colinear(points, &ring[..self.n]) {
             return Err(Refusal::OneLine);
         }

@@ -5,8 +5,8 @@ ghost use Rattle.geometry.specs.Lent.{points};
 ghost use Rattle.geometry.specs.Spots.{spots};
 ghost use Rattle.polygon.specs.Place.{position};
 ghost use Rattle.polygon.specs.Ring.{IsRing};
-ghost use Rattle.machine.specs.Board.{is_straight_line};
-ghost use Rattle.machine.specs.Answer.{in_range, new_point, none_alike, least_to, clockwise};
+ghost use Rattle.machine.specs.Board.{turn_at, is_straight_line};
+ghost use Rattle.machine.specs.Answer.{in_range, new_point, none_alike, least_to, clockwise, counter_clockwise};
 ghost use Rattle.moves.specs.Walk.{ring_of, point_of, On};
 ghost use Rattle.checks.specs.Least.{lesser_at};
 ghost use Rattle.checks.specs.Told.{Names, Tells};
@@ -115,15 +115,33 @@ fn least_at(on: Vertex<'_>) -> Position
     least
 }
 
-// The least point of the ring turns clockwise.
-pub fn is_clockwise(points: Points<'_>, ring: &[u16]) -> bool
+// How the ring turns at its least point.
+fn least_turn(points: Points<'_>, ring: &[u16]) -> i64
     requires { IsRing points.n ring.now × (0 < points.n) }
-    ensures { result ≡ clockwise points.entry.n (spots points.entry) ring.now }
+    ensures { let n = points.entry.n in
+        let pt = spots points.entry in
+        result ≡ turn_at n pt ring.now (least_to n pt ring.now (n - 1)) }
 {
     let first = Position {
         id: PositionId(0),
         size: points.size(),
     };
     let on = Vertex::new(points, ring, first);
-    on.at(least_at(on)).orientation() < 0
+    on.at(least_at(on)).orientation()
+}
+
+// The least point of the ring turns clockwise.
+pub fn is_clockwise(points: Points<'_>, ring: &[u16]) -> bool
+    requires { IsRing points.n ring.now × (0 < points.n) }
+    ensures { result ≡ clockwise points.entry.n (spots points.entry) ring.now }
+{
+    least_turn(points, ring) < 0
+}
+
+// It turns counter-clockwise. Where all points lie on one line it does neither.
+pub fn is_counter_clockwise(points: Points<'_>, ring: &[u16]) -> bool
+    requires { IsRing points.n ring.now × (0 < points.n) }
+    ensures { result ≡ counter_clockwise points.entry.n (spots points.entry) ring.now }
+{
+    0 < least_turn(points, ring)
 }

@@ -1,5 +1,5 @@
 -- What `tour_query` tells and leaves: a refusal and all as it was where a check fails, else the edges that were found.
-use Rattle.std.specs.Prelude.{◌≡◌, refl, Bool, true, false, ◌||◌, cond, List, [], ◌∷◌, ◌++◌, ℕ, ◌≤◌, ◌<◌, eqb, ltb, leb, ℤ, length, take, drop, Result, Ok, Err}
+use Rattle.std.specs.Prelude.{◌≡◌, refl, Bool, false, ◌||◌, List, [], ◌∷◌, ◌++◌, ℕ, ◌≤◌, ◌<◌, eqb, ltb, leb, ℤ, length, take, drop, Ok, Err}
 use Rattle.std.proofs.Common.{sym, ◌∙◌, ap, arith, ltb-false, leb-false}
 use borrow.Author.Tests.{ne_eqb}
 use Rattle.algebra.specs.Cases.{or_parts}
@@ -13,7 +13,6 @@ use Rattle.checks.specs.Checks.{any_below}
 use Rattle.checks.proofs.Checking.{same_refusal, long}
 use Rattle.box_tree.specs.Tree.{ring_tree, tree_size}
 use Rattle.sweeps.specs.declared.query.Contacts.{Contacts}
-use Rattle.host.specs.declared.contacts.TourQueried.{TourQueried}
 use Rattle.host.specs.Query.{meeting, tests_at, query_in_numbers, query_short, query_refusal, queried, tree_after, found_after}
 
 -- what a call is lent

@@ -1,12 +1,12 @@
 -- What `tour_feed` tells: a refusal where a check fails, else the feed of the loop.
-use Rattle.std.proofs.Common.{◌≡◌, sym, Bool, false, List, [], ◌∷◌, ℕ, ◌≤◌, length, take, ℤ, arith}
+use Rattle.std.proofs.Common.{◌≡◌, sym, false, List, [], ◌∷◌, ℕ, length, take, ℤ, arith}
 use Rattle.refusal.specs.declared.Refusal.{Refusal}
 use Rattle.refusal.specs.Number.{number_of}
 use Rattle.refusal.proofs.Numbers.{some_number}
 use Rattle.geometry.specs.Answers.{answered, refused as denied}
 use Rattle.geometry.specs.Lent.{points, Lent}
 use Rattle.polygon.proofs.EachOnce.{each_ring}
-use Rattle.checks.specs.Checks.{any_below, short, first_four}
+use Rattle.checks.specs.Checks.{any_below, first_four}
 use Rattle.checks.proofs.Checking.{four_passed}
 use Rattle.job.specs.Feed.{feed_of, Drawn}
 use Rattle.job.proofs.Feeds.{ring_drawn}
@@ -19,10 +19,6 @@ module _ (n : ℕ) (x y : List ℤ) (r : List ℕ) where
 
   abbrev pub number : ℕ
   number = first_four n (points x y) (any_below n lengths) false (take n r)
-
-  -- the checks' number, by the code's test of the lengths
-  pub number_is : {k : ℕ} {s : Bool} → k ≡ first_four n (points x y) s false (take n r) → (n ≤ 256 → s ≡ short n lengths []) → k ≡ number
-  number_is e h = grind arith
 
   pub told_refused : (e : Refusal) → number_of e ≡ number → denied (number_of e) ≡ fed n x y r
   unfolding fed

@@ -4,7 +4,7 @@ ghost use Rattle.refusal.specs.declared.Refusal.{Refusal};
 ghost use Rattle.geometry.specs.Answers.{told};
 ghost use Rattle.host.specs.Numbers.{fed, feed_in_numbers};
 
-use checks::accept::{Given, too_short};
+use checks::accept::Given;
 use job::feed::Loop;
 use refusal::Refusal;
 
@@ -33,16 +33,7 @@ impl From<Result<u64, Refusal>> for TourFeed {
 fn feed(n: usize, x: &[i32], y: &[i32], ring: &[u16]) -> Result<u64, Refusal>
     ensures { told result ≡ fed n x.now y.now ring.now }
 {
-    let short = too_short(n, &[x.len(), y.len(), ring.len()], &[]);
-    let many = false;
-    let given = Given {
-        n,
-        x,
-        y,
-        short,
-        many,
-    };
-    given.first_four(ring)?;
+    Given::with_ring(n, x, y, ring).first_four(ring)?;
     let ring = &ring[..n];
     Ok(Loop { x, y, ring }.feed())
 }

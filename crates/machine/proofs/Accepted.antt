@@ -47,7 +47,7 @@ by_checks false false false false false false false true = inl (omega arith)
 by_checks false false false false false false false false = inl (omega arith)
 
 module _ (n : ℕ) (pt : ℕ → Point) where
-  alike_distinct : none_alike n pt ≡ true → Distinct n pt
+  pub alike_distinct : none_alike n pt ≡ true → Distinct n pt
   alike_distinct h =
       by_order n (λ i j. pt i ≡ pt j) (λ i j e. sym e)
       (λ i j ji l e. never (not (eq_point (pt j) (pt i))) (all_true i (λ j. not (eq_point (pt j) (pt i))) (all_true n (λ i. all_below i (λ j. not (eq_point (pt j) (pt i)))) h i l) j ji) (rw (eq_point_same (pt j) (pt i) e)))

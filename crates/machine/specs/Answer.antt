@@ -33,6 +33,10 @@ module _ (n : ℕ) (pt : ℕ → Point) where
   abbrev pub clockwise : List ℕ → Bool
   clockwise r = lt_z (turn_at n pt r (least_to r (n - 1))) (pos 0)
 
+  -- its least point turns counter-clockwise
+  abbrev pub counter_clockwise : List ℕ → Bool
+  counter_clockwise r = lt_z (pos 0) (turn_at n pt r (least_to r (n - 1)))
+
   -- The loop is reversed whole if its least point turns clockwise.
   abbrev pub finish : List ℕ → List ℕ
   finish r = cond (clockwise r) (turned_round n r) r

@@ -1,7 +1,7 @@
 -- The numbers of the refusals.
 use Rattle.std.specs.Prelude.{ℕ, Result, Ok, Err}
 use Rattle.refusal.specs.declared.Refusal.{Refusal}
-use Rattle.refusal.specs.declared.Refusal.TheVariants.{ManyPoints, ShortBuffer, OutOfRange, NoRing, EqualPoints, FewPoints, OneLine, PicksUsedUp, JobLength, TotalLength, ManyJobPoints, AreaOutside, SharedBytes, ManyPicks}
+use Rattle.refusal.specs.declared.Refusal.TheVariants.{ManyPoints, ShortBuffer, OutOfRange, NoRing, EqualPoints, FewPoints, OneLine, PicksUsedUp, JobLength, TotalLength, ManyJobPoints, AreaOutside, SharedBytes, NotCounterClockwise, EdgesMeet, ManyPicks}
 
 abbrev pub number_of : Refusal → ℕ
 number_of ManyPoints = 1
@@ -17,6 +17,8 @@ number_of TotalLength = 10
 number_of ManyJobPoints = 11
 number_of AreaOutside = 12
 number_of SharedBytes = 13
+number_of NotCounterClockwise = 14
+number_of (EdgesMeet first second) = 15
 number_of ManyPicks = 19
 
 -- the number with which a check refuses, or 0 where it passes

@@ -35,6 +35,10 @@ pub enum Refusal {
     AreaOutside,
     // The areas of the job share bytes.
     SharedBytes,
+    // The least point of a drawn loop does not turn counter-clockwise.
+    NotCounterClockwise,
+    // Edges of a drawn loop meet; the first two start at these positions.
+    EdgesMeet { first: usize, second: usize },
     // More than 1,000,000 picks.
     ManyPicks,
 }
@@ -58,6 +62,8 @@ impl Refusal {
             Refusal::ManyJobPoints => 11,
             Refusal::AreaOutside => 12,
             Refusal::SharedBytes => 13,
+            Refusal::NotCounterClockwise => 14,
+            Refusal::EdgesMeet { .. } => 15,
             Refusal::ManyPicks => 19,
         }
     }
@@ -79,6 +85,8 @@ impl fmt::Display for Refusal {
             Refusal::ManyJobPoints => "the job has more than 48 points",
             Refusal::AreaOutside => "an area of the job is not within it",
             Refusal::SharedBytes => "the areas of the job share bytes",
+            Refusal::NotCounterClockwise => "the least point does not turn counter-clockwise",
+            Refusal::EdgesMeet { .. } => "two edges meet",
             Refusal::ManyPicks => "more than 1000000 picks",
         })
     }

@@ -1,5 +1,4 @@
 -- `contacts_at` meets its contract: there is room for as many positions as there are edges.
-use Rattle.std.specs.Prelude.{◌≤◌, length}
 use Rattle.std.proofs.Common.{sym, ◌∙◌, arith}
 use Rattle.std.proofs.Math.Seq.{length-take-le}
 use Rattle.geometry.specs.Spots.{spots}

@@ -1,10 +1,10 @@
--- `is_clockwise` meets its contract: it asks how the ring turns at its least point.
+-- `least_turn` meets its contract: it asks how the ring turns at its least point.
 use native.Mathlib.Omega.{arith}
 use Prim.Native.Nat.{◌-◌, ◌<◌}
 use Rattle.moves.specs.Walk.{ring_of, point_of}
 use Rattle.moves.proofs.RingPositions.{at_id, at_size}
 use Rattle.checks.proofs.Least.{least_lt}
-use Rattle.checks.proofs.start.is_clockwise.Goals as goal
+use Rattle.checks.proofs.start.least_turn.Goals as goal
 
 pub at-requires : goal.at-requires
 at-requires c =
