@@ -115,6 +115,7 @@ impl<'a> Pair<'a> {
     }
 
     // Most pairs have no point of the one on the other's line: then the edge is another, and no part of the rule is a branch.
+    #[inline(always)] // the moves of 256 random points take a fifth more without
     pub fn compare(self) -> Compared
         ensures { Compares (spots self.entry.a.points) (edge_of self.entry.a.edge) (edge_between self.entry.from.id.0 self.entry.to.id.0) result }
     {

@@ -1,0 +1,10 @@
+pub mod OneSide
+pub mod Behind
+pub mod Checking
+pub mod HalfEdges
+pub mod Deciding
+pub mod Fresh
+pub mod Passing
+pub mod Told
+pub mod Entering
+pub mod Boards
