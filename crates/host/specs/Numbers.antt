@@ -13,6 +13,7 @@ use Rattle.polygon.specs.Place.{fault_of}
 use Rattle.polygon.specs.declared.position.PositionId.{PositionId}
 use Rattle.machine.specs.Answer.{Answer, refused, unfinished, delivered}
 use Rattle.checks.specs.Checks.{any_below, first_four}
+use Rattle.validate.specs.Drawn.{Check, passed, meeting, refused as rejected}
 use Rattle.job.specs.declared.reader.Counts.{Counts}
 use Rattle.job.specs.Feed.{feed_of}
 use Rattle.host.specs.declared.meeting.TourEnd.{TourEnd}
@@ -21,6 +22,7 @@ use Rattle.host.specs.declared.loops.TourAnswer.{TourAnswer}
 use Rattle.host.specs.declared.job_file.TourJob.{TourJob}
 use Rattle.host.specs.declared.loop_feed.TourFeed.{TourFeed}
 use Rattle.host.specs.declared.ring_fault.TourFault.{TourFault}
+use Rattle.host.specs.declared.drawn.TourChecked.{TourChecked}
 
 -- 0 for a delivered loop, else the number of the refusal, with the counts that belong to it
 abbrev pub in_numbers : Answer → TourAnswer
@@ -53,6 +55,12 @@ kind_in_numbers (denied number) = record { code = number; kind = 0; start = no_e
 abbrev pub job_in_numbers : Told Counts → TourJob
 job_in_numbers (answered counts) = record { code = 0; points = counts.points; picks = counts.picks }
 job_in_numbers (denied number) = record { code = number; points = 0; picks = 0 }
+
+-- 0 for a drawn ring that passes, 15 with the positions of the edges that meet, else the number of the refusal
+abbrev pub check_in_numbers : Check → TourChecked
+check_in_numbers passed = record { code = 0; first = 0; second = 0 }
+check_in_numbers (meeting i j) = record { code = 15; first = i; second = j }
+check_in_numbers (rejected number) = record { code = number; first = 0; second = 0 }
 
 -- What is told of a lent loop: the feed of the ring's first n entries, or the first of the checks 1 to 4 that fails; x, y and ring need n entries each.
 unfoldable pub fed : ℕ → (x y : List ℤ) (ring : List ℕ) → Told ℕ

@@ -3,6 +3,7 @@
 #![tactic(auto)]
 
 pub mod contacts;
+pub mod drawn;
 pub mod job_file;
 pub mod loop_feed;
 pub mod loops;
