@@ -10,7 +10,7 @@ use Rattle.geometry.specs.Plane.{Point}
 use Rattle.index_edge.specs.Edge.{Edge}
 use Rattle.polygon.specs.Ring.{at}
 use Rattle.polygon.specs.Edges.{edge_at, edge_sum}
-use Rattle.job.specs.Text.{summary, point_line, point_lines, loop_lines, left_line, edge_line, edge_lines, total_line, stopped_lines, refused_line}
+use Rattle.job.specs.Text.{summary, point_line, point_lines, loop_lines, left_line, edge_name, edge_line, edge_lines, total_line, stopped_lines, refused_line}
 use Rattle.job.specs.Feed.{feed_of}
 use Rattle.job.proofs.Decimals.{length_decimal, length_u16, length_integer}
 
@@ -37,10 +37,14 @@ unfolding loop_lines
 length_loop pt ring m c = rw length-append (omega (arith, length_summary (length ring) m c (feed_of pt ring), length_lines pt ring (length ring)))
 
 -- ---- a run that used up its picks
--- a line of numbers of 16 bits
+-- numbers of 16 bits
+pub length_name : (e : Edge) → e.lo < 65536 → e.hi < 65536 → length (edge_name e) ≤ 16
+unfolding edge_name
+length_name e l h = simp length-append (omega (arith, length_u16 e.lo l, length_u16 e.hi h))
+
 length_edge : (e : Edge) (c : ℕ) → e.lo < 65536 → e.hi < 65536 → c < 65536 → length (edge_line e c) ≤ 23
 unfolding edge_line
-length_edge e c l h b = simp length-append (omega (arith, length_u16 e.lo l, length_u16 e.hi h, length_u16 c b))
+length_edge e c l h b = simp length-append (omega (arith, length_name e l h, length_u16 c b))
 
 module _ (count : Edge → ℕ) (ring : List ℕ) (k : ℕ) where
   pub edges_next : {e : Edge} {c : ℕ} → e ≡ edge_at (length ring) ring k → c ≡ count e → edge_lines count ring k ++ edge_line e c ≡ edge_lines count ring (k + 1)

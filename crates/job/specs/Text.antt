@@ -13,6 +13,11 @@ use Rattle.job.specs.declared.report.Report.{Report}
 use Rattle.job.specs.declared.report.Report.TheVariants.{Delivered, Stopped, Refused}
 use Rattle.refusal.specs.Number.{number_of}
 
+-- ---- an edge
+-- `edge A B`: its two point numbers, the smaller first
+unfoldable pub edge_name : Edge → List ℕ
+edge_name e = ascii "edge " ++ (decimal e.lo ++ (ascii " " ++ decimal e.hi))
+
 -- ---- a loop
 -- the line `ok N moves M cross C feed F`
 unfoldable pub summary : (n m c f : ℕ) → List ℕ
@@ -37,9 +42,9 @@ loop_lines pt ring moves cross = summary (length ring) moves cross (feed_of pt r
 unfoldable pub left_line : ℕ → List ℕ
 left_line left = ascii "refused 8 left " ++ (decimal left ++ ascii "\n")
 
--- the line `edge A B C` of an edge: its two point numbers, the smaller first, and how many records name it
+-- the line `edge A B C` of an edge: the edge, and how many records name it
 unfoldable pub edge_line : Edge → ℕ → List ℕ
-edge_line e count = ascii "edge " ++ (decimal e.lo ++ (ascii " " ++ (decimal e.hi ++ (ascii " " ++ (decimal count ++ ascii "\n")))))
+edge_line e count = edge_name e ++ (ascii " " ++ (decimal count ++ ascii "\n"))
 
 -- the lines of the edges at the first k ring positions
 unfoldable pub edge_lines : (Edge → ℕ) → List ℕ → ℕ → List ℕ

@@ -113,7 +113,7 @@ fn tenth(n: u32) -> u32
 
 // The steps that a word of micrometres makes. A negative number is rounded as its opposite, so an exact half goes away from zero on both sides.
 #[tactic(auto, using(crate::proofs::Rounding::step_low, crate::proofs::Rounding::step_high))]
-fn step_of(w: u32) -> i32
+pub fn step_of(w: u32) -> i32
     ensures { result ≡ steps (signed w) }
 {
     if w < 2147483648 {
@@ -123,7 +123,7 @@ fn step_of(w: u32) -> i32
 }
 
 // Reads the first n places of a buffer, each by its number.
-fn fill<T: Copy, F: Fn(usize) -> T>(out: &mut [T], n: usize, read: F)
+pub fn fill<T: Copy, F: Fn(usize) -> T>(out: &mut [T], n: usize, read: F)
     ghost entry: { ℕ → T }
     requires room { n ≤ length out.old }
     requires can { (i : ℕ) → i < n → F.pre read i }

@@ -8,7 +8,7 @@ ghost use Rattle.job.specs.Buffers.{Put};
 ghost use Rattle.job.specs.Decimal.{decimal};
 ghost use Rattle.job.specs.Loops.{spots};
 ghost use Rattle.job.specs.Tallies.{tally};
-ghost use Rattle.job.specs.Text.{summary, point_line, point_lines, edge_line, edge_lines, stopped_lines, report_text, positions};
+ghost use Rattle.job.specs.Text.{summary, point_line, point_lines, edge_name, edge_line, edge_lines, stopped_lines, report_text, positions};
 ghost use Rattle.job.specs.Writing.{Wrote, HasRoom};
 
 use super::feed::Loop;
@@ -51,7 +51,7 @@ fn put_summary(w: &mut Writer, n: u64, moves: u64, cross: u64, feed: u64)
 
 // A line of a text and a number.
 #[tactic(auto, using(crate::proofs::Decimals::length_decimal))]
-fn put_line(w: &mut Writer, text: &[u8], v: u64)
+pub fn put_line(w: &mut Writer, text: &[u8], v: u64)
     requires { HasRoom w.old (length text.now + 21) }
     ensures { Wrote w.old w.new (text.now ++ (decimal v ++ ascii "\n")) }
 {
@@ -82,14 +82,24 @@ fn put_points(w: &mut Writer, told: Loop)
     }
 }
 
-// An edge's line, `edge A B C`. Its numbers have five digits at most.
+// An edge, `edge A B`. Its numbers have five digits at most.
+#[tactic(auto, using(crate::proofs::Decimals::length_u16, crate::proofs::Lines::length_name))]
+pub fn put_edge_name(w: &mut Writer, e: IndexEdge)
+    requires { HasRoom w.old 16 }
+    ensures text { Wrote w.old w.new (edge_name (edge_of e)) }
+    ensures short { length (edge_name (edge_of e)) ≤ 16 }
+{
+    w.field(b"edge ", e.min.0 as u64);
+    w.field(b" ", e.max.0 as u64);
+}
+
+// An edge's line, `edge A B C`.
 #[tactic(auto, using(crate::proofs::Decimals::length_u16))]
 fn put_edge(w: &mut Writer, e: IndexEdge, count: u16)
     requires { HasRoom w.old 23 }
     ensures { Wrote w.old w.new (edge_line (edge_of e) count) }
 {
-    w.field(b"edge ", e.min.0 as u64);
-    w.field(b" ", e.max.0 as u64);
+    put_edge_name(w, e);
     w.field(b" ", count as u64);
     w.text(b"\n");
 }

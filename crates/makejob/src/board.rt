@@ -2,10 +2,12 @@
 ghost use Rattle.arrayvec.specs.ArrayVec.{array_vec_len};
 ghost use Rattle.makejob.specs.Kept.{Fits};
 
-use super::fault::{Fault, LineFault};
+use super::fault::Fault;
 use super::generator::draw;
-use super::line::{Line, read_line};
 use arrayvec::ArrayVec;
+use board_text::fault::TextFault;
+use board_text::line::{Line, Pad, read_line};
+use board_text::lines::add_lines;
 
 // The points and the picks so far: they make a job. The coordinates are apart: the encoder's public promise is over two lists, of any
 // lengths.
@@ -90,21 +92,16 @@ impl Board {
     fn add_line(&mut self, line: &[u8]) -> Result<(), Fault> {
         match read_line(line)? {
             Line::Blank => Ok(()),
-            Line::Point { x, y } => self.add_point(x, y),
+            Line::Pad(Pad { x, y }) => self.add_point(x, y),
             Line::Pick(pick) => self.add_pick(pick),
             Line::Picks { seed, count } => self.draw_picks(seed, count),
         }
     }
 }
 
-// The board of a text, or the first line that does not fit.
-pub fn read_board(text: &[u8]) -> Result<Board, LineFault> {
+// The board of a text, or what is wrong with it.
+pub fn read_board(text: &[u8]) -> Result<Board, TextFault<Fault>> {
     let mut board = Board::new();
-    for (i, line) in text.split(|b| *b == b'\n').enumerate() {
-        board.add_line(line).map_err(|fault| LineFault {
-            number: i + 1,
-            fault,
-        })?;
-    }
+    add_lines(text, |line| board.add_line(line))?;
     Ok(board)
 }

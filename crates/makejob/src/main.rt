@@ -7,10 +7,9 @@
 mod board;
 mod fault;
 mod generator;
-mod line;
-mod number;
 
 use board::{Board, read_board};
+use board_text::fault::LONGEST;
 use job::encoder::write_job;
 use std::io::{self, Read, Write};
 
@@ -23,10 +22,8 @@ fn write_board<W: Write>(to: &mut W, board: &Board) -> io::Result<()> {
 
 fn main(rt: HostRuntime) -> io::Result<()> {
     let mut text = Vec::new(rt.alloc());
-    rt.reader().take(262145).read_to_end(&mut text)?;
-    if 262144 < text.len() {
-        return eprintln!(rt; "makejob: the text is longer than 262144 bytes");
-    }
+    // One byte more, so that a longer text is seen.
+    rt.reader().take(LONGEST + 1).read_to_end(&mut text)?;
     match read_board(&text) {
         Ok(board) => write_board(&mut io::writer(&rt), &board),
         Err(fault) => eprintln!(rt; "makejob: {fault}"),

@@ -10,7 +10,7 @@ use Rattle.job.specs.Steps.{steps}
 use Rattle.job.specs.Job.{outside, shares_bytes, in_range, decide, refusal, accepted}
 use Rattle.job.specs.Decimal.{digits, decimal, integer}
 use Rattle.job.specs.Feed.{feed_between, edge_feed}
-use Rattle.job.specs.Text.{summary, point_line, point_lines, loop_lines, left_line, edge_line, edge_lines, total_line, stopped_lines}
+use Rattle.job.specs.Text.{summary, point_line, point_lines, loop_lines, left_line, edge_name, edge_line, edge_lines, total_line, stopped_lines}
 use Rattle.job.proofs.Example.{job}
 use Rattle.geometry.specs.Contact.{overlap_of, kind}
 use Rattle.machine.specs.Board.{kind_edges, meet_edges}
@@ -29,5 +29,5 @@ seven =
     ∷ 0 ∷ [])
 
 pub seven_points : printed seven ≡ ascii "refused 8 left 4\nedge 0 4 0\nedge 1 4 3\nedge 1 2 1\nedge 2 3 0\nedge 3 5 3\nedge 5 6 1\nedge 0 6 0\ntotal 8\n"
-unfolding printed told accepted refusal decide outside shares_bytes in_range word signed steps bytes_of word_bytes left_line edge_line edge_lines total_line stopped_lines decimal digits meet_edges kind_edges kind overlap_of
+unfolding printed told accepted refusal decide outside shares_bytes in_range word signed steps bytes_of word_bytes left_line edge_name edge_line edge_lines total_line stopped_lines decimal digits meet_edges kind_edges kind overlap_of
 seven_points = refl

@@ -5,4 +5,4 @@ use Rattle.job.proofs.report.put_edge.Goals as goal
 
 pub returns : goal.returns
 unfolding edge_line
-returns c = wrote_then c.field.ensures (wrote_then c.field-2.ensures (wrote_then c.field-3.ensures c.text.ensures))
+returns c = wrote_then c.put_edge_name.ensures.text (wrote_then c.field.ensures c.text.ensures)

@@ -9,7 +9,7 @@ use Rattle.std.specs.List.{fold, list_all}
 use Rattle.std.specs.Char.{is_ascii_digit}
 use Rattle.algebra.specs.Cases.{both, le_cases}
 use Rattle.job.specs.Decimal.{is_digit, all_digits, value_from, value}
-use Rattle.makejob.specs.Numbers.{malformed, number, natural, cap, shifted}
+use Rattle.board_text.specs.Numbers.{malformed, number, natural, cap, shifted}
 
 -- ---- digit by digit
 value_grows : (v : ℕ) (l : List ℕ) → v ≤ value_from v l

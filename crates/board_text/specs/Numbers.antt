@@ -1,8 +1,8 @@
 -- What a field of a line means as a number.
 use Rattle.std.specs.Prelude.{Bool, false, cond, List, [], ◌∷◌, ℕ, ◌+◌, ◌-◌, ◌*◌, ◌^◌, min, drop, eqb, leb, ltb, ℤ, pos, neg_ℤ, Result, Ok, Err}
 use Rattle.job.specs.Decimal.{all_digits, value}
-use Rattle.makejob.specs.declared.number.NumberError.{NumberError}
-use Rattle.makejob.specs.declared.number.NumberError.TheVariants as error
+use Rattle.board_text.specs.declared.fault.LineError.{LineError}
+use Rattle.board_text.specs.declared.fault.LineError.TheVariants as error
 
 -- no number, one that 32 bits do not hold, or a number
 pub data Parsed (A : Type 0) : Type 0 where
@@ -56,7 +56,7 @@ capped (number n) = number (min n cap)
 abbrev pub shifted : ℕ → ℕ → ℕ
 shifted v d = min (10 * v + (d - 48)) cap
 
-abbrev pub parsed_of : {A : Type 0} → Result A NumberError → Parsed A
+abbrev pub parsed_of : {A : Type 0} → Result A LineError → Parsed A
 parsed_of (Ok v) = number v
 parsed_of (Err error.OutOfRange) = out_of_range
 parsed_of (Err error.Malformed) = malformed

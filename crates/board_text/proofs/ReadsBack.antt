@@ -11,8 +11,8 @@ use borrow.Author.Tests.{lt-ltb, le-leb, leb-true, ne_eqb}
 use Rattle.algebra.specs.Cases.{both, le_cases, and_left}
 use Rattle.job.specs.Decimal.{decimal, integer, is_digit, all_digits}
 use Rattle.job.proofs.Decimals.{decimal_right, length_small, length_more}
-use Rattle.makejob.specs.Numbers.{number, natural, minus_first, coordinate}
-use Rattle.makejob.proofs.Capped.{natural_digits}
+use Rattle.board_text.specs.Numbers.{number, natural, minus_first, coordinate}
+use Rattle.board_text.proofs.Capped.{natural_digits}
 
 -- a minus sign is no digit
 digits_plain : (l : List ℕ) → all_digits l ≡ true → minus_first l ≡ false

@@ -2,25 +2,19 @@
 ghost use Rattle.std.specs.Prelude.{◌≡◌, fold};
 ghost use Rattle.std.specs.List.{list_all};
 ghost use Rattle.std.specs.Char.{is_ascii_digit};
-ghost use Rattle.makejob.specs.Numbers.{capped, parsed_of};
-ghost use Rattle.makejob.specs.Numbers.{natural, word, coordinate};
-ghost use Rattle.makejob.specs.Numbers.{shifted as shifted_to};
-ghost use Rattle.makejob.specs.declared.number.NumberError.TheVariants.{OutOfRange};
+ghost use Rattle.board_text.specs.Numbers.{capped, parsed_of};
+ghost use Rattle.board_text.specs.Numbers.{natural, word, coordinate};
+ghost use Rattle.board_text.specs.Numbers.{shifted as shifted_to};
+ghost use Rattle.board_text.specs.declared.fault.LineError.TheVariants.{OutOfRange};
 
+use super::fault::LineError;
 use std::num::TryFromIntError;
 
-// Why a field is no number of its kind.
-#[derive(Clone, Copy, Debug, PartialEq, Eq)]
-pub enum NumberError {
-    Malformed,
-    OutOfRange,
-}
-
-impl From<TryFromIntError> for NumberError {
+impl From<TryFromIntError> for LineError {
     ghost from_gives = { λ _ e. e ≡ OutOfRange };
 
-    fn from(_e: TryFromIntError) -> NumberError {
-        NumberError::OutOfRange
+    fn from(_e: TryFromIntError) -> LineError {
+        LineError::OutOfRange
     }
 }
 
@@ -46,24 +40,24 @@ fn value_of(digits: &[u8]) -> u64
 }
 
 #[tactic(auto, using(crate::proofs::Capped::fields))]
-fn read_natural(field: &[u8]) -> Result<u64, NumberError>
+fn read_natural(field: &[u8]) -> Result<u64, LineError>
     ensures { parsed_of result ≡ capped (natural field.now) }
 {
     if field.is_empty() || !all_digits(field) {
-        return Err(NumberError::Malformed);
+        return Err(LineError::Malformed);
     }
     Ok(value_of(field))
 }
 
 // An unsigned number of 32 bits.
-pub fn read_word(field: &[u8]) -> Result<u32, NumberError>
+pub fn read_word(field: &[u8]) -> Result<u32, LineError>
     ensures { parsed_of result ≡ word field.now }
 {
     Ok(u32::try_from(read_natural(field)?)?)
 }
 
 // A signed number of 32 bits.
-pub fn read_coordinate(field: &[u8]) -> Result<i32, NumberError>
+pub fn read_coordinate(field: &[u8]) -> Result<i32, LineError>
     ensures { parsed_of result ≡ coordinate field.now }
 {
     match field {
