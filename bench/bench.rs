@@ -9,7 +9,8 @@ mod tour;
 #[used]
 static BEFORE: [u8; 16] = [1; 16];
 
-use rgeometry::probe::bare_moves;
+use rgeometry::algorithms::polygonization::two_opt::shim::with_ring;
+use rgeometry::probe::{bare_moves, points};
 use std::hint::black_box;
 use std::time::Instant;
 use tour::{Answer, Buffers};
@@ -184,6 +185,21 @@ fn measure_ring(n: usize) -> u128 {
     least_time(999, || _ = black_box(tour::ring_fault(n, black_box(&ring))))
 }
 
+/// The check of a delivered loop of n points, by the library and by the original's `Polygon::validate`, whose polygon is built before. Both compare all
+/// n*(n-1)/2 pairs of edges: which search the original calls is not published, and the sweep that is takes big fractions only, so it has the oracle's plain one.
+fn measure_validate(n: usize) -> [u128; 2] {
+    let b = board("uniform", n, 1);
+    let [x, y] = b.columns();
+    let mut lent = Buffers::new(n);
+    let answer = tour::two_opt_moves(n, &x, &y, &b.picks, &mut lent);
+    assert!(matches!(answer, Answer::Delivered { .. }));
+    let order: Vec<usize> = lent.ring.iter().map(|&k| k as usize).collect();
+    let polygon = with_ring(points(&b.points), &order);
+    assert_eq!((tour::validate(n, &x, &y, &lent.ring), polygon.validate()), (Ok(()), Ok(())));
+    let ours = least_time(999, || _ = black_box(tour::validate(n, black_box(&x), black_box(&y), &lent.ring)));
+    [ours, least_time(999, || _ = black_box(black_box(&polygon).validate()))]
+}
+
 const DEPTH: usize = 1 << 20;
 const OWN: usize = 512;
 const PAINT: u8 = 0xa5;
@@ -242,6 +258,8 @@ fn main() {
     let [fed, refused] = measure_feed(256).map(|t| t as f64 / 1e3);
     println!("\nfeed of 256 points: {fed:.1} us, its checks {refused:.1} us, the roots and their sum {:.1} us", fed - refused);
     println!("\ncheck 4 of 256 points: {:.2} us", measure_ring(256) as f64 / 1e3);
+    let [ours, theirs] = measure_validate(256).map(|t| t as f64 / 1e3);
+    println!("\nvalidate of 256 points: {ours:.1} us, the original {theirs:.1} us");
     println!("\nmemory of a call in bytes: lent (x, y, ring, index, eight buffers of n*(n-1), tree), picks aside; stack");
     for n in [48, 256] {
         println!("n {n:3}: lent {:8} stack {:6}", n * 12 + 30 * n * (n - 1) + 16 * (2 * n - 1), stack_used(n));

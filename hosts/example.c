@@ -122,6 +122,19 @@ static void show_contact(const char *title, const int32_t *p) {
     else printf("%s\n", k.kind == TOUR_CROSSING ? "crossing" : "none");
 }
 
+/* Whether a ring passes, and of two edges that meet how they do. */
+static void show_check(const char *title, size_t n, const int32_t *x, const int32_t *y, size_t y_len, const uint16_t *of) {
+    tour_checked c = tour_validate(n, x, N, y, y_len, of, N);
+    printf("%s: code %u first %zu second %zu\n", title, (unsigned)c.code, c.first, c.second);
+    if (c.code != 15) return;
+    int32_t ends[8];
+    for (size_t k = 0; k < 4; k++) {
+        size_t p = of[((k < 2 ? c.first : c.second) + k % 2) % n];
+        ends[2 * k] = x[p], ends[2 * k + 1] = y[p];
+    }
+    show_contact("  how they meet", ends);
+}
+
 static void put_word(uint8_t *job, size_t *at, uint32_t w) {
     for (int k = 0; k < 4; k++) job[(*at)++] = (uint8_t)(w >> 8 * k);
 }
@@ -202,6 +215,19 @@ int main(void) {
     show_query("query, equal points", 4, tall, tall, across, TREE, 0);
     show_query("query, two points", 2, wide, tall, around, TREE, 0);
     show_query("query, one line", 4, row_x, row_x, across, TREE, 0);
+
+    static const uint16_t back[N] = {3, 2, 1, 0};
+    show_check("drawn around", 4, wide, tall, N, around);
+    show_check("drawn clockwise", 4, wide, tall, N, back);
+    show_check("drawn across", 4, wide, tall, N, across);
+    show_check("drawn with a fold", 4, (int32_t[N]){0, 4, 2, 2}, (int32_t[N]){0, 0, 0, 3}, N, around);
+    show_check("drawn, too many points", 257, wide, tall, N, around);
+    show_check("drawn, short buffer", 4, wide, tall, 3, around);
+    show_check("drawn, too far", 4, too_wide, tall, N, around);
+    show_check("drawn, no ring", 4, wide, tall, N, twice);
+    show_check("drawn, equal points", 4, tall, tall, N, around);
+    show_check("drawn, two points", 2, wide, tall, N, around);
+    show_check("drawn, one line", 4, row_x, row_x, N, around);
 
     show_contact("a touch", (const int32_t[]){0, 0, 4, 0, 2, 0, 2, 3});
     show_contact("a fold", (const int32_t[]){0, 0, 4, 0, 4, 0, 2, 0});

@@ -1,7 +1,7 @@
 //! A Rust host: the same calls as example.c, through the safe wrapper, with the same output. scripts/hosts.sh runs it.
 mod tour;
 
-use tour::{Answer, Buffers, Contact, End, Queried};
+use tour::{Answer, Buffers, Contact, End, Queried, Rejected};
 
 /// The position of the edge that most records name; of several, the first.
 fn worst(n: usize, lent: &Buffers) -> usize {
@@ -63,6 +63,20 @@ fn show_contact(title: &str, contact: Result<Option<Contact>, u32>) {
         Ok(Some(Contact::Crossing)) => println!("{title}: crossing"),
         Ok(Some(Contact::Overlap(start, stop))) => println!("{title}: overlap from {} to {}", end(start), end(stop)),
         Err(code) => println!("{title}: code {code}"),
+    }
+}
+
+/// Whether a ring passes, and of two edges that meet how they do.
+fn show_check(title: &str, n: usize, x: &[i32], y: &[i32], ring: &[u16]) {
+    let (code, first, second) = match tour::validate(n, x, y, ring) {
+        Ok(()) => (0, 0, 0),
+        Err(Rejected::Meeting { first, second }) => (15, first, second),
+        Err(Rejected::Refused(code)) => (code, 0, 0),
+    };
+    println!("{title}: code {code} first {first} second {second}");
+    if code == 15 {
+        let edge = |i: usize| [i, (i + 1) % n].map(|i| ring[i] as usize).map(|p| [x[p], y[p]]);
+        show_contact("  how they meet", tour::contact(edge(first), edge(second)));
     }
 }
 
@@ -183,6 +197,22 @@ fn main() {
         ("query, one line", 4, &[12, 1, 3, 0], &[12, 1, 3, 0], &across, 60, 0),
     ] {
         show_query(title, n, x, y, ring, &mut lent.tree[..room], position);
+    }
+
+    for (title, n, x, y, ring) in [
+        ("drawn around", 4, &wide[..], &y[..], &around),
+        ("drawn clockwise", 4, &wide, &y, &[3, 2, 1, 0]),
+        ("drawn across", 4, &wide, &y, &across),
+        ("drawn with a fold", 4, &[0, 4, 2, 2], &[0, 0, 0, 3], &around),
+        ("drawn, too many points", 257, &wide, &y, &around),
+        ("drawn, short buffer", 4, &wide, &y[..3], &around),
+        ("drawn, too far", 4, &too_wide, &y, &around),
+        ("drawn, no ring", 4, &wide, &y, &twice),
+        ("drawn, equal points", 4, &y, &y, &around),
+        ("drawn, two points", 2, &wide, &y, &around),
+        ("drawn, one line", 4, &row.0, &row.0, &around),
+    ] {
+        show_check(title, n, x, y, ring);
     }
 
     for (title, a, b) in [

@@ -2,7 +2,8 @@
  *
  * A slice is a pointer and a length in elements; where the length is 0 the pointer may be NULL. What the functions cannot
  * see, and the host answers for: a pointer is good for its length and aligned, and no buffer that a call writes shares memory with another
- * buffer of the same call. Everything else is checked before anything is written, in the order 1, 2, 19, 3 to 7 (a job: 9 to 13, then 2):
+ * buffer of the same call. Everything else is checked before anything is written, in the order 1, 2, 19, 3 to 7 (a job: 9 to 13, then 2; a drawn
+ * ring: 1 to 6, 14, 15):
  *
  *    1  more than 256 points
  *    2  a buffer shorter than the call needs, or an edge's position that is n or more
@@ -13,6 +14,8 @@
  *    9  a job shorter than 20 or longer than 16384 bytes              10  a total word that is not that length
  *   11  a job of more than 48 points                                  12  an area outside the job
  *   13  a byte that belongs to both areas of a job                       19  more than 1000000 picks
+ *   14  the least point of a drawn ring, in the order of x, then y, does not turn counter-clockwise
+ *   15  two edges of a drawn ring meet
  *
  * Every refusal but 8 leaves all buffers of the call as they were. No function keeps a pointer, allocates or fails otherwise;
  * calls in different threads do not touch each other.
@@ -107,6 +110,18 @@ typedef struct {
  * anything at first, and is that of the ring afterwards. Of found only the first count elements are written. */
 tour_queried tour_query(size_t n, const int32_t *x, size_t x_len, const int32_t *y, size_t y_len, const uint16_t *ring, size_t ring_len,
     int32_t *tree, size_t tree_len, size_t position, uint16_t *found, size_t found_len);
+
+/* code 0: the ring passes. code 15: the edges that start at the positions first and second meet, first < second. Any other code: a refusal (1 to 6, or
+ * 14). What a code does not name is 0. */
+typedef struct {
+    uint32_t code;
+    size_t first, second;
+} tour_checked;
+
+/* Whether the loop that ring[0 .. n-1] names may go to ink: whether a run from it with no picks would deliver it as it is. Its least point has to turn
+ * counter-clockwise, and no two edges may meet elsewhere than in an end of both. Told are the first two that do: of all edges that meet one behind them the
+ * first in ring order, and of those behind it that meet it the first. x, y and ring need n elements each and are only read. */
+tour_checked tour_validate(size_t n, const int32_t *x, size_t x_len, const int32_t *y, size_t y_len, const uint16_t *ring, size_t ring_len);
 
 /* How two segments meet elsewhere than in an end of both. */
 enum { TOUR_APART, TOUR_CROSSING, TOUR_OVERLAP };

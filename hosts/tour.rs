@@ -31,6 +31,13 @@ mod raw {
     }
 
     #[repr(C)]
+    pub struct Checked {
+        pub code: u32,
+        pub first: usize,
+        pub second: usize,
+    }
+
+    #[repr(C)]
     pub struct End {
         pub x: i32,
         pub y: i32,
@@ -65,6 +72,7 @@ mod raw {
                 pub fn tour_feed(n: usize, x: *const i32, x_len: usize, y: *const i32, y_len: usize, ring: *const u16, ring_len: usize) -> Fed;
                 pub fn tour_query(n: usize, x: *const i32, x_len: usize, y: *const i32, y_len: usize, ring: *const u16, ring_len: usize,
                     tree: *mut i32, tree_len: usize, position: usize, found: *mut u16, found_len: usize) -> Queried;
+                pub fn tour_validate(n: usize, x: *const i32, x_len: usize, y: *const i32, y_len: usize, ring: *const u16, ring_len: usize) -> Checked;
                 pub safe fn tour_contact(a1x: i32, a1y: i32, a2x: i32, a2y: i32, b1x: i32, b1y: i32, b2x: i32, b2y: i32) -> Kind;
                 pub safe fn tour_meets(a1x: i32, a1y: i32, a2x: i32, a2y: i32, b1x: i32, b1y: i32, b2x: i32, b2y: i32) -> u32;
                 pub fn tour_read_job(job: *const u8, job_len: usize, x: *mut i32, x_len: usize, y: *mut i32, y_len: usize,
@@ -228,6 +236,26 @@ pub fn query<'a>(
             found.as_mut_ptr(), found.len())
     };
     if queried.code == 0 { Ok(Queried { found: &found[..queried.count], tested: queried.tested }) } else { Err(queried.code) }
+}
+
+/// Why a drawn ring does not pass.
+#[derive(Clone, Copy, Debug, PartialEq, Eq)]
+pub enum Rejected {
+    /// Refusal 15. The edges that start at these positions meet, the first before the second; they are the first two that do.
+    Meeting { first: usize, second: usize },
+    /// The number of the refusal: 1 to 6, or 14.
+    Refused(u32),
+}
+
+/// Whether the loop that the first n entries of the ring name may go to ink: whether a run from it with no picks would deliver it as it is.
+pub fn validate(n: usize, x: &[i32], y: &[i32], ring: &[u16]) -> Result<(), Rejected> {
+    // SAFETY: as above.
+    let checked = unsafe { raw::tour_validate(n, x.as_ptr(), x.len(), y.as_ptr(), y.len(), ring.as_ptr(), ring.len()) };
+    match checked.code {
+        0 => Ok(()),
+        15 => Err(Rejected::Meeting { first: checked.first, second: checked.second }),
+        code => Err(Rejected::Refused(code)),
+    }
 }
 
 /// An end of an overlap; an open one is an end of both segments.
