@@ -10,7 +10,7 @@ use lib.IntN.{ℤ}
 use lib.ListN.{length, get_or, take}
 use lib.Seq.{length-take-le}
 use borrow.Author.Tests.{ltb-false}
-use Rattle.algebra.specs.Cases.{both, or_parts, and_left, and_right, not_false, true_or_false}
+use Rattle.algebra.specs.Cases.{both, eq_cases, or_parts, and_left, and_right, not_false, true_or_false}
 use Rattle.algebra.specs.Ranges.{all_below, all_true, up_from}
 use Rattle.geometry.specs.Plane.{Point, near_point, near}
 use Rattle.geometry.specs.Lent.{points, Lent, coord}
@@ -76,16 +76,6 @@ six_least false false false false true b6 = omega arith
 six_least false false false false false true = omega arith
 six_least false false false false false false = omega arith
 
-six_alone : (b1 b2 b19 b3 b4 b5 b6 : Bool) (k : ℕ) → one_to_three b1 b2 b19 b3 (cond b4 4 (five_six b5 b6 k)) ≡ 0 → one_to_three b1 b2 b19 b3 (cond b4 4 (five_six b5 b6 0)) ≡ 0
-six_alone true b2 b19 b3 b4 b5 b6 k h = h
-six_alone false true b19 b3 b4 b5 b6 k h = h
-six_alone false false true b3 b4 b5 b6 k h = h
-six_alone false false false true b4 b5 b6 k h = h
-six_alone false false false false true b5 b6 k h = h
-six_alone false false false false false true b6 k h = h
-six_alone false false false false false false true k h = h
-six_alone false false false false false false false k h = refl
-
 at_six : (b1 b2 b19 b3 b4 b5 b6 : Bool) (k : ℕ) → 0 < one_to_three b1 b2 b19 b3 (cond b4 4 (five_six b5 b6 0)) → one_to_three b1 b2 b19 b3 (cond b4 4 (five_six b5 b6 k)) ≡ one_to_three b1 b2 b19 b3 (cond b4 4 (five_six b5 b6 0))
 at_six true b2 b19 b3 b4 b5 b6 k h = refl
 at_six false true b19 b3 b4 b5 b6 k h = refl
@@ -134,7 +124,7 @@ module _ (n : ℕ) (pt : ℕ → Point) (s m : Bool) (r : List ℕ) where
 
   -- what passes all checks passes the first six
   pub six_of_all : refusal n pt s m r ≡ 0 → first_six n pt s m r ≡ 0
-  six_of_all = six_alone (ltb 256 n) s m (not (in_range n pt)) (not (each_once n r)) (not (none_alike n pt)) (ltb n 3) line
+  six_of_all h = both (eq_cases (first_six n pt s m r) 0) (λ z. z.0) (λ z. absurd (let same = refused_by_six (omega (arith, z.0)) in omega (arith, same, h, z.0)))
 
   -- where there are not too many picks their number is at most 6
   pub six_small : first_six n pt s false r ≤ 6

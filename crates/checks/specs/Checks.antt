@@ -27,7 +27,7 @@ first_four n pt s m r = cond (ltb 256 n) 1 (cond s 2 (cond m 19 (cond (not (in_r
 abbrev pub late : ℕ → (ℕ → Point) → ℕ
 late n pt = cond (not (none_alike n pt)) 5 (cond (ltb n 3) 6 0)
 
--- all six
+-- all these: 1, 2, 19, and 3 to 6
 abbrev pub first_six : ℕ → (ℕ → Point) → Bool → Bool → List ℕ → ℕ
 first_six n pt s m r =
     cond (ltb 256 n) 1 (cond s 2 (cond m 19 (cond (not (in_range n pt)) 3 (cond (not (each_once n r)) 4 (cond (not (none_alike n pt)) 5 (cond (ltb n 3) 6 0))))))

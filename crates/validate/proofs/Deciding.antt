@@ -14,14 +14,12 @@ use Rattle.geometry.specs.Segment.{Meet}
 use Rattle.geometry.proofs.Meeting.{meets_decides}
 use Rattle.geometry.proofs.Symmetry.{meets_swap}
 use Rattle.polygon.specs.Ring.{next, at, IsRing}
-use Rattle.polygon.proofs.Positions.{next_lt, next_not}
 use Rattle.machine.specs.Board.{pt_at, Distinct}
 use Rattle.machine.proofs.EdgesMeet.{meets_ends}
-use Rattle.machine.proofs.Corners.{ring_apart}
 use Rattle.validate.specs.Drawn.{Check, passed, refused, meeting, meeting_or, meet_at, first_behind, contact_from, contact}
 use Rattle.validate.specs.Meetings.{Sooner, EdgesAt, SomeMeet, FirstMeeting}
 use Rattle.validate.specs.HalfOpen.{SomeShare}
-use Rattle.validate.proofs.HalfEdges.{half_open_rejects}
+use Rattle.validate.proofs.HalfEdges.{ends_differ, half_open_rejects}
 
 -- ---- the search
 module _ (n : ℕ) (pt : ℕ → Point) (r : List ℕ) where
@@ -55,19 +53,16 @@ module _ (n : ℕ) (pt : ℕ → Point) (r : List ℕ) (three : 3 ≤ n) (distin
   abbrev P : ℕ → Point
   P = pt_at pt r
 
-  ends_differ : (i : ℕ) → i < n → P i ≢ P (next n i)
-  ends_differ i l e = next_not n i (omega arith) l (sym (ring_apart n pt r ring distinct i (next n i) l (next_lt n i l) e))
-
   pub meet_at_is : (i j : ℕ) → i < n → j < n → (meet_at n pt r i j ≡ true) ↔ EdgesAt n pt r Meet i j
   meet_at_is i j li lj =
-      let d = meets_decides (P i) (P (next n i)) (P j) (P (next n j)) (ends_differ i li) (ends_differ j lj) in
+      let d = meets_decides (P i) (P (next n i)) (P j) (P (next n j)) (ends_differ n pt r three distinct ring i li) (ends_differ n pt r three distinct ring j lj) in
       let e = meets_ends pt (at r i) (at r (next n i)) (at r j) (at r (next n j)) in
       (λ h. d.0 (sym e ∙ h), λ m. e ∙ d.1 m)
 
   pub meet_at_swap : (i j : ℕ) → i < n → j < n → meet_at n pt r i j ≡ meet_at n pt r j i
   meet_at_swap i j li lj =
       meets_ends pt (at r i) (at r (next n i)) (at r j) (at r (next n j))
-      ∙ meets_swap (P j) (P (next n j)) (P i) (P (next n i)) (ends_differ j lj) (ends_differ i li)
+      ∙ meets_swap (P j) (P (next n j)) (P i) (P (next n i)) (ends_differ n pt r three distinct ring j lj) (ends_differ n pt r three distinct ring i li)
       ∙ sym (meets_ends pt (at r j) (at r (next n j)) (at r i) (at r (next n i)))
 
   -- ---- what is found

@@ -3,7 +3,7 @@
 use mathlib.Core.Path.{◌≡◌, refl, sym, ◌∙◌, ap}
 use mathlib.Core.List.{List, [], ◌∷◌}
 use mathlib.Core.Logic.{inl, inr, ◌≢◌, ◌↔◌}
-use Prim.Native.Nat.{ℕ, ◌≤◌}
+use Prim.Native.Nat.{ℕ, ◌≤◌, ◌<◌}
 use native.Mathlib.Omega.{arith}
 use lib.IntN.{ℤ, pos, ◌-ℤ◌, ◌*ℤ◌}
 use lib.Signed.{◌<ℤ◌}
@@ -106,9 +106,12 @@ module _ (n : ℕ) (pt : ℕ → Point) (r : List ℕ) where
   abbrev P : ℕ → Point
   P = pt_at pt r
 
+  -- the ends of an edge are different points
+  pub ends_differ : 3 ≤ n → Distinct n pt → IsRing n r → (i : ℕ) → i < n → P i ≢ P (next n i)
+  ends_differ three di ring i l e = next_not n i (omega (arith, three)) l (sym (ring_apart n pt r ring di i (next n i) l (next_lt n i l) e))
+
   share_meet : 3 ≤ n → Distinct n pt → IsRing n r → SomeShare n pt r → SomeMeet n pt r
   share_meet three di ring h =
-      let apart = ring_apart n pt r ring di in
       record {
         i = h.i;
         j = h.j;
@@ -116,9 +119,9 @@ module _ (n : ℕ) (pt : ℕ → Point) (r : List ℕ) where
         second_in = h.second_in;
         differ = h.differ;
         related = half_meets
-            (λ e. next_not n h.i (omega arith) h.first_in (sym (apart h.i (next n h.i) h.first_in (next_lt n h.i h.first_in) e)))
-            (λ e. next_not n h.j (omega arith) h.second_in (sym (apart h.j (next n h.j) h.second_in (next_lt n h.j h.second_in) e)))
-            (λ e. h.differ (apart h.i h.j h.first_in h.second_in e))
+            (ends_differ three di ring h.i h.first_in)
+            (ends_differ three di ring h.j h.second_in)
+            (λ e. h.differ (ring_apart n pt r ring di h.i h.j h.first_in h.second_in e))
             h.related;
       }
 
