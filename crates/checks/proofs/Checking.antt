@@ -111,6 +111,10 @@ module _ (n : ℕ) (pt : ℕ → Point) (s m : Bool) (r : List ℕ) where
   pub refused_four : 0 < first_four n pt s m r → refusal n pt s m r ≡ first_four n pt s m r
   refused_four = at_four (ltb 256 n) s m (not (in_range n pt)) (not (each_once n r)) (five_six (not (none_alike n pt)) (ltb n 3) line)
 
+  -- so do the first six
+  pub six_by_four : 0 < first_four n pt s m r → first_six n pt s m r ≡ first_four n pt s m r
+  six_by_four = at_four (ltb 256 n) s m (not (in_range n pt)) (not (each_once n r)) (five_six (not (none_alike n pt)) (ltb n 3) 0)
+
   pub four_passed : first_four n pt s m r ≡ 0 → (early n pt s m ≡ 0) × (each_once n r ≡ true)
   four_passed h = let k = four_few (ltb 256 n) s m (not (in_range n pt)) (not (each_once n r)) h in (k.0, not_false _ k.1)
 

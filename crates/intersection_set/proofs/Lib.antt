@@ -19,3 +19,4 @@ pub mod Showing
 pub mod StoreFacts
 pub mod Buffers
 pub mod Ages
+pub mod Filling

@@ -7,3 +7,4 @@ pub mod Within
 pub mod Holds
 pub mod Stored
 pub mod Set
+pub mod Filling

@@ -10,7 +10,7 @@ ghost use Rattle.index_edge.specs.Number.{edge_of};
 ghost use Rattle.intersection_set.specs.Store.{Store, no_rec, empty, push as pushed, remove_all as all_removed, chosen};
 ghost use Rattle.intersection_set.specs.Lists.{none, head_place};
 ghost use Rattle.intersection_set.specs.Words.{packed, part0, part1, part2, part3, unit_of, with_link};
-ghost use Rattle.intersection_set.specs.Pool.{Pool, edges_of, links_in, nexts_in, prevs_in, links_of, no_ends, counts_of, end0, end1, head_at, set_end, set_head, unlink_from, raised, lowered, put_edges, put_ends, clear_ends, pool_push, pool_remove, lesser, greater};
+ghost use Rattle.intersection_set.specs.Pool.{Pool, edges_of, links_in, nexts_in, prevs_in, links_of, pair_of, no_ends, counts_of, end0, end1, head_at, set_end, set_head, unlink_from, raised, lowered, put_edges, put_ends, clear_ends, pool_push, pool_remove, lesser, greater};
 ghost use Rattle.intersection_set.specs.Within.{Proper, EndOk, HeadOk, UnlinkOk, RaiseOk, LowerOk, RaiseBoth, LowerBoth, Sized, PushOk, RemoveOk};
 ghost use Rattle.intersection_set.specs.Holds.{Holds, MayPush};
 ghost use Rattle.intersection_set.specs.Stored.{stored, goes_back, Slot};
@@ -65,13 +65,12 @@ fn unpack(w: u64) -> (u16, u16, u16, u16)
     )
 }
 
-// The two edges of the record at i.
-#[tactic(auto, using(crate::proofs::Words::pair_reads), unfolding(crate::specs::Pool::pair_of))]
-fn edges_at(ends: &[u64], i: usize) -> IndexIntersection
-    requires { i < length ends.now }
-    ensures { (edge_of result.min ≡ end0 (edges_of ends.now) i) × (edge_of result.max ≡ end1 (edges_of ends.now) i) }
+// The two edges of a record, by its first word.
+#[tactic(auto, unfolding(crate::specs::Pool::pair_of))]
+pub fn edges_in(word: u64) -> IndexIntersection
+    ensures { (edge_of result.min ≡ (pair_of word).e0) × (edge_of result.max ≡ (pair_of word).e1) }
 {
-    let (min0, max0, min1, max1) = unpack(ends[i]);
+    let (min0, max0, min1, max1) = unpack(word);
     IndexIntersection {
         min: IndexEdge {
             min: PointId(min0),
@@ -82,6 +81,15 @@ fn edges_at(ends: &[u64], i: usize) -> IndexIntersection
             max: PointId(max1),
         },
     }
+}
+
+// Those of the record at i.
+#[tactic(auto, using(crate::proofs::Words::pair_reads), unfolding(crate::specs::Pool::pair_of))]
+fn edges_at(ends: &[u64], i: usize) -> IndexIntersection
+    requires { i < length ends.now }
+    ensures { (edge_of result.min ≡ end0 (edges_of ends.now) i) × (edge_of result.max ≡ end1 (edges_of ends.now) i) }
+{
+    edges_in(ends[i])
 }
 
 // The next and the previous record in the list of one of a record's edges (`IsectEdge`).
@@ -296,14 +304,7 @@ impl<'a> IndexIntersectionSet<'a> {
         ensures counts { self.new.counts ≡ counts_of 0 0 0 0 }
         ensures empty { (n : ℕ) → n ≤ 256 → Sized n (pool_in self.new) → Holds n (pool_in self.new) empty }
     {
-        self.heads.fill(NONE);
-        self.tangles.fill(0);
-        self.counts = Counts {
-            live: 0,
-            grown: 0,
-            freed: 0,
-            pushes: 0,
-        };
+        self.clear_waiting(0);
     }
 
     pub fn len(&self) -> usize

@@ -2,5 +2,6 @@
 #![tactic(auto)]
 
 pub mod intersection_set;
+pub mod refill;
 pub mod sparse_index;
 pub mod utils;

@@ -30,21 +30,21 @@ pub small_append : {a b : List ℕ} → Small a → Small b → Small (a ++ b)
 small_append none q = q
 small_append (more h p) q = more h (small_append p q)
 
-bytes_sum : (w : ℕ) → w < 2 ^ 32 → w % 256 + 256 * (w / 256 % 256) + 65536 * (w / 256 / 256 % 256) + 16777216 * (w / 256 / 256 / 256) ≡ w
-bytes_sum w h = omega arith
+bytes_sum : (w : ℕ) → w % 256 + 256 * (w / 256 % 256) + 65536 * (w / 256 / 256 % 256) + 16777216 * (w / 256 / 256 / 256) ≡ w
+bytes_sum w = omega arith
 
 -- reading word i of the bytes of words gives word i
-pub word_bytes_lem : (ws : List ℕ) (i : ℕ) → i < length ws → Small ws → word (bytes_of ws) (4 * i) ≡ get_or ws i 0
+pub word_bytes_lem : (ws : List ℕ) (i : ℕ) → i < length ws → word (bytes_of ws) (4 * i) ≡ get_or ws i 0
 unfolding bytes_of word_bytes word
-word_bytes_lem [] i h s = absurd (omega arith)
-word_bytes_lem (w ∷ ws) zero h (more k s) = bytes_sum w k
-word_bytes_lem (w ∷ ws) (suc i) h (more k s) =
+word_bytes_lem [] i h = absurd (omega arith)
+word_bytes_lem (w ∷ ws) zero h = bytes_sum w
+word_bytes_lem (w ∷ ws) (suc i) h =
     let e₀ : 4 * suc i ≡ suc (suc (suc (suc (4 * i)))) = omega arith in
     let e₁ : 4 * suc i + 1 ≡ suc (suc (suc (suc (4 * i + 1)))) = omega arith in
     let e₂ : 4 * suc i + 2 ≡ suc (suc (suc (suc (4 * i + 2)))) = omega arith in
     let e₃ : 4 * suc i + 3 ≡ suc (suc (suc (suc (4 * i + 3)))) = omega arith in
     let g : i < length ws = omega arith in
-    rw (e₁, e₂, e₃, e₀) (word_bytes_lem ws i g s)
+    rw (e₁, e₂, e₃, e₀) (word_bytes_lem ws i g)
 
 -- every byte of them is one
 pub bytes_of_words : (ws : List ℕ) → Small ws → (i : ℕ) → get_or (bytes_of ws) i 0 < 256

@@ -34,18 +34,18 @@ pub record Fit (l : List ℤ) : Type 0 where
 
 -- ---- the words of the points
 module _ (x y : List ℤ) where
-  small_pairs : Fit x → Fit y → (n : ℕ) → Small (pairs x y n)
+  pub small_pairs : Fit x → Fit y → (n : ℕ) → Small (pairs x y n)
   unfolding pairs
   small_pairs fx fy zero = none
   small_pairs fx fy (suc n) =
       small_append (small_pairs fx fy n) (more (bits_small (coord x n) (fx.fit n)) (more (bits_small (coord y n) (fy.fit n)) none))
 
-  pairs_x : (n i : ℕ) → i < n → get_or (pairs x y n) (2 * i) 0 ≡ bits_of (coord x i)
+  pub pairs_x : (n i : ℕ) → i < n → get_or (pairs x y n) (2 * i) 0 ≡ bits_of (coord x i)
   unfolding pairs
   pairs_x zero i h = absurd (omega arith)
   pairs_x (suc n) i h = grind (arith, common_steps, length_pairs x y n, pairs_x n i)
 
-  pairs_y : (n i : ℕ) → i < n → get_or (pairs x y n) (2 * i + 1) 0 ≡ bits_of (coord y i)
+  pub pairs_y : (n i : ℕ) → i < n → get_or (pairs x y n) (2 * i + 1) 0 ≡ bits_of (coord y i)
   unfolding pairs
   pairs_y zero i h = absurd (omega arith)
   pairs_y (suc n) i h = grind (arith, common_steps, length_pairs x y n, pairs_y n i)
@@ -96,14 +96,14 @@ module _ {x y : List ℤ} {picks : List ℕ} (made : Encodable x y picks) where
 
   head_word : (j : ℕ) → j < 5 → word job (4 * j) ≡ get_or (header n m) j 0
   unfolding job_of header
-  head_word j h = word_bytes_lem (header n m ++ rest) j (omega arith) small ∙ get_or-append (header n m) rest 0 j h
+  head_word j h = word_bytes_lem (header n m ++ rest) j (omega arith) ∙ get_or-append (header n m) rest 0 j h
 
   rest_word : (j k : ℕ) → j < 2 * n + m → k ≡ 20 + 4 * j → word job k ≡ get_or rest j 0
   unfolding job_of header
   rest_word j k h e =
       let g : k ≡ 4 * (5 + j) = omega arith in
       let b : 5 + j < length (header n m ++ rest) = omega (arith, length_rest) in
-      ap (word job) g ∙ word_bytes_lem (header n m ++ rest) (5 + j) b small ∙ get_or-append-add (header n m) rest j 0
+      ap (word job) g ∙ word_bytes_lem (header n m ++ rest) (5 + j) b ∙ get_or-append-add (header n m) rest j 0
 
   pub points_is : point_count job ≡ n
   unfolding header

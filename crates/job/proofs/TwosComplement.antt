@@ -42,7 +42,7 @@ unfolding word
 word_range l i b = omega (arith, b.byte i, b.byte (i + 1), b.byte (i + 2), b.byte (i + 3))
 
 -- ---- the word of a number, as the machine has it
-bits_is : (z : ℤ) → of_z w32 z ≡ bits_of z
+pub bits_is : (z : ℤ) → of_z w32 z ≡ bits_of z
 unfolding bits_of
 bits_is (pos n) = refl
 bits_is (negsuc n) = refl

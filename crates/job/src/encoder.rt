@@ -16,8 +16,8 @@ fn header(n: u32, m: u32) -> [u32; 5]
     [n, 20, m, end, end + 4 * m]
 }
 
-// The points.
-fn put_pairs(w: &mut Writer, x: &[i32], y: &[i32])
+// The points: x and y of each, in turn.
+pub fn put_pairs(w: &mut Writer, x: &[i32], y: &[i32])
     requires { (length x.now ≡ length y.now) × HasRoom w.old (8 * length x.now) }
     ensures { Wrote w.old w.new (bytes_of (pairs x.now y.now (length x.now))) }
 {

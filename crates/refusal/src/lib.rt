@@ -41,6 +41,10 @@ pub enum Refusal {
     EdgesMeet { first: usize, second: usize },
     // More than 1,000,000 picks.
     ManyPicks,
+    // The image of a stopped run is not as its header says.
+    ImageFile,
+    // The records of a stopped run are not those of its ring.
+    WrongRecords,
 }
 
 impl Refusal {
@@ -65,6 +69,8 @@ impl Refusal {
             Refusal::NotCounterClockwise => 14,
             Refusal::EdgesMeet { .. } => 15,
             Refusal::ManyPicks => 19,
+            Refusal::ImageFile => 20,
+            Refusal::WrongRecords => 21,
         }
     }
 }
@@ -88,6 +94,8 @@ impl fmt::Display for Refusal {
             Refusal::NotCounterClockwise => "the least point does not turn counter-clockwise",
             Refusal::EdgesMeet { .. } => "two edges meet",
             Refusal::ManyPicks => "more than 1000000 picks",
+            Refusal::ImageFile => "the image has a wrong length, record width or area",
+            Refusal::WrongRecords => "the records or their ages are not those of the ring",
         })
     }
 }

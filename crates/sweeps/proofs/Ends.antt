@@ -1,5 +1,5 @@
 -- The edge from the point at a ring position to the next is an edge between two of the points, whose ends differ; and two edges meet whichever is asked first.
-use mathlib.Core.Path.{◌≡◌, refl, sym}
+use mathlib.Core.Path.{◌≡◌, refl, sym, subst}
 use mathlib.Core.Bool.{Bool, true, false, cond}
 use mathlib.Core.List.{List}
 use mathlib.Core.Logic.{◌≢◌}
@@ -9,12 +9,16 @@ use lib.Dec.{ltb}
 use borrow.Author.Tests.{ltb-true, ltb-false}
 use Rattle.geometry.specs.Plane.{Point}
 use Rattle.index_edge.specs.Edge.{Edge, edge}
+use Rattle.index_edge.proofs.Edges.{eq_edge_false}
 use Rattle.polygon.specs.Ring.{IsRing, next, at}
 use Rattle.polygon.specs.Edges.{edge_at}
 use Rattle.polygon.proofs.Positions.{next_lt, next_not}
+use Rattle.polygon.proofs.RingEdges.{edges_differ}
 use Rattle.intersection_set.specs.Within.{Proper}
 use Rattle.machine.specs.Board.{Board, Distinct, meet_edges}
 use Rattle.machine.proofs.EdgesMeet.{meet_edges_comm}
+use Rattle.sweeps.specs.Query.{met}
+use Rattle.sweeps.specs.Sight.{Among}
 
 pub two : {n : ℕ} {pt : ℕ → Point} → Board n pt → 2 ≤ n
 two b = omega (arith, b.three)
@@ -55,3 +59,17 @@ module _ {n : ℕ} {pt : ℕ → Point} (distinct : Distinct n pt) where
 
   pub points_differ : (a b : ℕ) → Proper n (edge a b) → pt a ≢ pt b
   points_differ a b p h = let d = apart a b p in d.2 (distinct a b d.0 d.1 h)
+
+-- ---- on a ring
+module _ {n : ℕ} {pt : ℕ → Point} {r : List ℕ} (ring : IsRing n r) (distinct : Distinct n pt) (three : 3 ≤ n) (i : ℕ) (li : i < n) where
+  pub among : {v w : ℕ} (j : ℕ) → j < n → v ≡ at r j → w ≡ at r (next n j) → Among n pt (edge_at n r i) (edge v w)
+  among j lj ev ew =
+      let two : 2 ≤ n = omega (arith, three) in
+      record { distinct = distinct; first = proper_at ring two i li; second = subst (λ e. Proper n e) (sym (edge_is n r j ev ew)) (proper_at ring two j lj) }
+
+  -- the edge at another position is another, so that it is met where the two meet
+  pub met_at : (j : ℕ) → i < j → j < n → met pt (edge_at n r i) (edge_at n r j) ≡ meet_edges pt (edge_at n r i) (edge_at n r j)
+  met_at j ij lj =
+      let two : 2 ≤ n = omega (arith, three) in
+      let other = eq_edge_false (edge_at n r j) (edge_at n r i) (λ e. absurd (let z = edges_differ n r ring three j i lj li e in omega (arith, z, ij))) in
+      rw other (sym (meet_comm distinct (proper_at ring two i li) (proper_at ring two j lj)))

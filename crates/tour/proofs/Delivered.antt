@@ -12,9 +12,9 @@ use Rattle.geometry.specs.Plane.{Point}
 use Rattle.geometry.specs.Lent.{points}
 use Rattle.polygon.specs.Ring.{IsRing}
 use Rattle.intersection_set.specs.Store.{Rec}
-use Rattle.machine.specs.Answer.{Answer, refused, unfinished, delivered, finish, answer, refusal, too_many, call}
+use Rattle.machine.specs.Answer.{Answer, refused, unfinished, delivered, answer, refusal, too_many, call}
 use Rattle.machine.specs.Machine.{after, place}
-use Rattle.machine.specs.Demand3.{Demand3, last_pairs}
+use Rattle.machine.specs.Demand3.{last_pairs}
 use Rattle.machine.proofs.Accepted.{accepted, demand3_call}
 use Rattle.job.specs.Feed.{edge_feed}
 use Rattle.job.proofs.Feeds.{edge_some}
@@ -28,6 +28,33 @@ abbrev left_of : Answer → ℕ
 left_of (unfinished r m l) = l
 left_of a = 0
 
+-- ---- an answer that goes by what a search found
+module _ {r f : List ℕ} {m k left : ℕ} {a : Answer} (found : List Rec) (delivers : found ≡ [] → a ≡ delivered f m k) (withholds : ¬ (found ≡ []) → a ≡ unfinished r m left) where
+  -- a loop is delivered where it found none
+  pub found_none : {l : List ℕ} {m' c : ℕ} → a ≡ delivered l m' c → (found ≡ []) × (l ≡ f)
+  found_none {l} {m'} {c} e = by_search found refl
+    where
+      by_search : (some : List Rec) → found ≡ some → (found ≡ []) × (l ≡ f)
+      by_search [] none = (none, ap ring_of (sym e ∙ delivers none))
+      by_search (x ∷ others) some =
+          let not_none : found ≡ [] → ⊥ = λ none. (let z : ◌≡◌ {A = ℕ} 0 1 = cc in omega arith) in
+          let u : unfinished r m left ≡ delivered l m' c = sym (withholds not_none) ∙ e in
+          absurd (let z : ◌≡◌ {A = ℕ} 0 1 = cc in omega arith)
+
+  -- else the ring is answered, with the records left
+  pub found_some : {l : List ℕ} {m' j : ℕ} → a ≡ unfinished l m' j → (l ≡ r) × (j ≡ left)
+  found_some {l} {m'} {j} e = by_search found refl
+    where
+      by_search : (some : List Rec) → found ≡ some → (l ≡ r) × (j ≡ left)
+      by_search [] none =
+          let u : delivered f m k ≡ unfinished l m' j = sym (delivers none) ∙ e in
+          absurd (let z : ◌≡◌ {A = ℕ} 0 1 = cc in omega arith)
+      by_search (x ∷ others) some =
+          let not_none : found ≡ [] → ⊥ = λ none. (let z : ◌≡◌ {A = ℕ} 0 1 = cc in omega arith) in
+          let is : unfinished l m' j ≡ unfinished r m left = sym e ∙ withholds not_none in
+          (ap ring_of is, ap left_of is)
+
+-- ---- a call
 module _ (n : ℕ) (pt : ℕ → Point) (short : Bool) (r cs : List ℕ) where
   -- what is answered by no number was refused by no check
   ran : {a : Answer} → call n pt short r cs ≡ a → ((k : ℕ) → refused k ≡ a → ⊥) → refusal n pt short (too_many cs) r ≡ 0
@@ -42,16 +69,10 @@ module _ (n : ℕ) (pt : ℕ → Point) (short : Bool) (r cs : List ℕ) where
     none_refused = ran e (λ k no. absurd (let z : ◌≡◌ {A = ℕ} 0 1 = cc in omega arith))
 
     pub delivered_ring : IsRing n l
-    delivered_ring = by_search (demand3_call n pt short r cs none_refused) (last_pairs n pt place cs r) refl
-      where
-        by_search : (call n pt short r cs ≡ answer n pt r (after n pt place cs r)) × Demand3 n pt place cs r → (found : List Rec) → last_pairs n pt place cs r ≡ found → IsRing n l
-        by_search d [] none =
-            let same : l ≡ finish n pt (after n pt place cs r).now.ring = ap ring_of (sym e ∙ d.0 ∙ d.1.delivers none) in
-            subst (IsRing n) (sym same) (d.1.loop none).ring
-        by_search d (x ∷ found) some =
-            let not_none : last_pairs n pt place cs r ≡ [] → ⊥ = λ none. (let z : ◌≡◌ {A = ℕ} 0 1 = cc in omega arith) in
-            let u : unfinished _ _ _ ≡ delivered l m c = sym (d.1.withholds not_none) ∙ sym d.0 ∙ e in
-            absurd (let z : ◌≡◌ {A = ℕ} 0 1 = cc in omega arith)
+    delivered_ring =
+        let (is, d) = demand3_call n pt short r cs none_refused in
+        let (none, same) = found_none (last_pairs n pt place cs r) d.delivers d.withholds (sym is ∙ e) in
+        subst (IsRing n) (sym same) (d.loop none).ring
 
     -- no edge of a delivered loop has equal ends: each has some feed
     pub delivered_feeds : (i : ℕ) → i < n → 1 ≤ edge_feed pt l i
@@ -65,17 +86,10 @@ module _ (n : ℕ) (pt : ℕ → Point) (short : Bool) (r cs : List ℕ) where
     stopped_refused = ran e (λ k no. absurd (let z : ◌≡◌ {A = ℕ} 0 1 = cc in omega arith))
 
     pub stopped_as : (l ≡ (after n pt place cs r).now.ring) × (k ≡ length (after n pt place cs r).now.store.dense) × IsRing n l
-    stopped_as = by_search (demand3_call n pt short r cs stopped_refused) (last_pairs n pt place cs r) refl
-      where
-        by_search : (call n pt short r cs ≡ answer n pt r (after n pt place cs r)) × Demand3 n pt place cs r → (found : List Rec) → last_pairs n pt place cs r ≡ found
-            → (l ≡ (after n pt place cs r).now.ring) × (k ≡ length (after n pt place cs r).now.store.dense) × IsRing n l
-        by_search d [] none =
-            let u : delivered _ _ _ ≡ unfinished l m k = sym (d.1.delivers none) ∙ sym d.0 ∙ e in
-            absurd (let z : ◌≡◌ {A = ℕ} 0 1 = cc in omega arith)
-        by_search d (x ∷ found) some =
-            let not_none : last_pairs n pt place cs r ≡ [] → ⊥ = λ none. (let z : ◌≡◌ {A = ℕ} 0 1 = cc in omega arith) in
-            let is : unfinished l m k ≡ unfinished _ _ _ = sym e ∙ d.0 ∙ d.1.withholds not_none in
-            (ap ring_of is, ap left_of is, subst (IsRing n) (sym (ap ring_of is)) d.1.ring)
+    stopped_as =
+        let (is, d) = demand3_call n pt short r cs stopped_refused in
+        let (same, left) = found_some (last_pairs n pt place cs r) d.delivers d.withholds (sym is ∙ e) in
+        (same, left, subst (IsRing n) (sym same) d.ring)
 
 -- a board with such an edge is refused
 pub equal_ends : call 3 (points (pos 0 ∷ pos 0 ∷ pos 1 ∷ []) (pos 0 ∷ pos 0 ∷ pos 0 ∷ [])) false (up_from 0 3) [] ≡ refused 5

@@ -21,7 +21,7 @@ unfolding printed told accepted refusal decide outside shares_bytes in_range wor
 example = refl
 
 -- (120,0), (10,0), (30,-50), (0,0), (100,0), (20,0), (60,50) and the pick 0, with the offsets 20 and 76 and the total 80
-abbrev seven : List ℕ
+abbrev pub seven : List ℕ
 seven =
     bytes_of
     (7 ∷ 20 ∷ 1 ∷ 76 ∷ 80

@@ -1,8 +1,9 @@
 // From a job to what is printed of it.
 #![tactic(auto)]
 
-ghost use Rattle.std.specs.Prelude.{ℕ, ◌≤◌, ◌≡◌, length, take, Ok, Err};
+ghost use Rattle.std.specs.Prelude.{ℕ, ◌+◌, ◌*◌, ◌≤◌, ◌≡◌, length, Ok, Err};
 ghost use Rattle.refusal.specs.declared.Refusal.TheVariants.{PicksUsedUp};
+ghost use Rattle.geometry.specs.Lent.{points};
 ghost use Rattle.geometry.specs.Spots.{spots};
 ghost use Rattle.intersection_set.specs.Pool.{tangle_at};
 ghost use Rattle.job.specs.Buffers.{Put};
@@ -21,26 +22,25 @@ use refusal::Refusal;
 use two_opt::entries::{Delivered, two_opt_moves};
 use two_opt::workspace::Workspace;
 
-// Writes the text of what an entry answered. The ring's first entries are the loop that is delivered, or the ring with crossings left.
+// Writes the text of what a call answered. The ring is the loop that is delivered, or has crossings left, which `tangles` counts by edge.
 #[tactic(auto, using(crate::proofs::Told::told_refusal), unfolding(crate::specs::Printed::told, job::specs::Text::report_text))]
-fn tell(
+pub fn tell(
     done: Result<Delivered, Refusal>,
-    points: Points<'_>,
+    x: &[i32],
+    y: &[i32],
     ring: &[u16],
     tangles: &[u16],
     out: &mut [u8],
 ) -> usize
-    requires n_bound { (points.n ≤ 48) × (points.n ≤ length ring.now) × (2216 ≤ length out.old) }
-    requires drawn { (d : Delivered) → done ≡ Ok d → Drawn points.x.now points.y.now (take points.n ring.now) }
-    requires tallied { (moves left : ℕ) → done ≡ Err (PicksUsedUp moves left) → Tallied (take points.n ring.now) tangles.now }
-    ensures put { let n = points.entry.n in
-        Put out.old 0 (told (spots points.entry) (λ e. tangle_at n e tangles.now) (answer_of done (take n ring.now))) result out.new }
+    requires room { 104 + 44 * length ring.now ≤ length out.old }
+    requires drawn { (d : Delivered) → done ≡ Ok d → Drawn x.now y.now ring.now }
+    requires tallied { (moves left : ℕ) → done ≡ Err (PicksUsedUp moves left) → Tallied ring.now tangles.now }
+    ensures put { let n = length ring.now in
+        Put out.old 0 (told (points x.now y.now) (λ e. tangle_at n e tangles.now) (answer_of done ring.now)) result out.new }
     ensures within { result ≤ length out.new }
 {
-    let ring = &ring[..points.n];
     match done {
         Ok(Delivered { moves, cross }) => {
-            let Points { x, y, .. } = points;
             let told = Loop { x, y, ring };
             put_report(Report::Delivered { moves, cross, told }, out)
         }
@@ -85,7 +85,8 @@ fn deliver(points: Points<'_>, picks: &[u32], out: &mut [u8]) -> usize
     };
     let done = two_opt_moves(points.n, points.x, points.y, picks, &mut work);
     let Workspace { ring, tangles, .. } = work;
-    tell(done, points, ring, tangles, out)
+    let ring = &ring[..points.n];
+    tell(done, points.x, points.y, ring, tangles, out)
 }
 
 // Writes what is printed of a job to the start of `out`, and answers its length. 2,216 bytes hold the longest text, that of a loop: 104 for the first line, 44 for

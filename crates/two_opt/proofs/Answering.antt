@@ -15,15 +15,16 @@ use Rattle.geometry.specs.Plane.{Point}
 use Rattle.geometry.specs.Lent.{points}
 use Rattle.intersection_set.specs.Pool.{lent}
 use Rattle.intersection_set.specs.Within.{Room}
-use Rattle.machine.specs.Machine.{begin, after, place}
-use Rattle.machine.specs.Answer.{refused, unfinished, delivered, finish, answer, refusal, too_many}
+use Rattle.machine.specs.Machine.{State, begin, run_word, place}
+use Rattle.machine.specs.Onward.{from}
+use Rattle.machine.specs.Answer.{refused, unfinished, delivered, finish, answer_from, refusal, too_many}
 use Rattle.machine.proofs.Accepted.{Accepted, accepted, seven_or_nineteen}
 use Rattle.untangle.specs.Running.{state_after}
 use Rattle.box_tree.specs.Tree.{ring_tree, tree_size}
 use Rattle.resolve.specs.Ended.{Counted, last_ring, Ended}
 use Rattle.checks.specs.Checks.{any_below, Of}
 use Rattle.two_opt.specs.Entry.{refusal_of, answer_of, Loan, loan, each, front, past, ring_sized, record_sized, short_of, first_refusal, Entry}
-use Rattle.two_opt.specs.Lent.{Enough, Starting, RanIn}
+use Rattle.two_opt.specs.Lent.{Enough, Starting, RanFrom, RanIn}
 use Rattle.two_opt.specs.declared.entries.Delivered.{Delivered}
 use Rattle.resolve.specs.declared.resolve.Resolved.{Resolved}
 use Rattle.refusal.proofs.Numbers.{some_number}
@@ -50,7 +51,7 @@ refused_entry n x y r cs l is some =
     }
 
 -- ---- the lengths, where check 2 passes
-enough : (n : ℕ) (x y : List ℤ) (l : Loan) → short_of n x y l ≡ false → Enough n l
+pub enough : (n : ℕ) (x y : List ℤ) (l : Loan) → short_of n x y l ≡ false → Enough n l
 enough n x y l h = record {
   in_ring = ring_long 2 (omega arith);
   in_index = ring_long 3 (omega arith);
@@ -131,12 +132,12 @@ module _ (n m k : ℕ) (was parts : Loan) (em : m ≡ n * (n - 1)) (ek : k ≡ t
       (past_part k parts.tree was.tree ek lt i)
 
   -- a run over the parts is one over what is lent
-  pub ran_parts : (pt : ℕ → Point) (cs : List ℕ) {r : Resolved} → parts.tree ≡ ring_tree n pt parts.ring
-      → (let s = (begin n pt (take n was.ring)).now in Counted n pt s cs r.moves r.cross r.left × Ended n pt s cs parts.ring parts.index parts.records)
-      → RanIn n pt cs was (written n m k was parts) r
-  ran_parts pt cs tree (counted, ended) = record {
+  pub ran_parts : (pt : ℕ → Point) (s : State) (cs : List ℕ) {r : Resolved} → parts.tree ≡ ring_tree n pt parts.ring
+      → Counted n pt s cs r.moves r.cross r.left × Ended n pt s cs parts.ring parts.index parts.records
+      → RanFrom n pt s cs was (written n m k was parts) r
+  ran_parts pt s cs tree (counted, ended) = record {
     counted = counted;
-    ended = subst⁻¹ (λ (l : Loan). Ended n pt (begin n pt (take n was.ring)).now cs l.ring l.index l.records) front_written ended;
+    ended = subst⁻¹ (λ (l : Loan). Ended n pt s cs l.ring l.index l.records) front_written ended;
     tree = subst⁻¹ (λ (l : Loan). l.tree ≡ ring_tree n pt l.ring) front_written tree;
     beyond = past_written;
   }
@@ -187,14 +188,15 @@ module _ (n : ℕ) (x y : List ℤ) (r cs : List ℕ) (l : Loan) {s m : Bool} (e
       record { ok = no; accepted = a; enough = enough n x y l a.long; plain = subst (λ b. refusal n (points x y) b (too_many cs) r ≡ 0) a.long no }
 
 -- the answer of a run, by its counts
-module _ (n : ℕ) (pt : ℕ → Point) (r cs : List ℕ) where
+module _ (n : ℕ) (pt : ℕ → Point) (s : State) (cs : List ℕ) where
   as_answered : (t : Bool) (f g : List ℕ) {m m' c c' l l' : ℕ} {ring : List ℕ} → m ≡ m' → c ≡ c' → l ≡ l' → ring ≡ cond t f g → cond t (delivered ring m c) (unfinished ring m l) ≡ cond t (delivered f m' c') (unfinished g m' l')
   as_answered true f g em ec el er = λ i. delivered (er i) (em i) (ec i)
   as_answered false f g em ec el er = λ i. unfinished (er i) (em i) (el i)
 
-  ran_answer : {m c l : ℕ} {ring : List ℕ} → Counted n pt (begin n pt r).now cs m c l → ring ≡ last_ring n pt (begin n pt r).now cs → cond (eqb l 0) (delivered ring m c) (unfinished ring m l) ≡ answer n pt r (after n pt place cs r)
+  pub ran_answer : {m c l : ℕ} {ring : List ℕ} → Counted n pt s cs m c l → ring ≡ last_ring n pt s cs
+      → cond (eqb l 0) (delivered ring m c) (unfinished ring m l) ≡ answer_from n pt (length s.store.dense) (run_word n pt place cs (from s))
   ran_answer {m} {c} {l} {ring} k e =
-      let t = state_after n pt (begin n pt r).now cs in
+      let t = state_after n pt s cs in
       ap (λ j. cond (eqb j 0) (delivered ring m c) (unfinished ring m l)) k.left
       ∙ as_answered (eqb (length t.store.dense) 0) (finish n pt t.ring) t.ring k.moves k.cross k.left e
 
@@ -219,7 +221,7 @@ module _ {n : ℕ} {x y : Bor (List ℤ)} (p : Points) (o : Of n x y p) (r cs : 
       let counted = subst (λ l. Counted n pt (begin n pt l).now cs done.moves done.cross done.left) h.ring g.counted in
       let ended = subst (λ l. Ended n pt (begin n pt l).now cs (front n is).ring (front n is).index (front n is).records) h.ring g.ended in
       record {
-        answers = tells _ ∙ ran_answer n pt r cs counted ended.same_ring ∙ rw ok refl;
+        answers = tells _ ∙ ran_answer n pt (begin n pt r).now cs counted ended.same_ring ∙ rw ok refl;
         untouched = λ no. absurd (no ok);
         ended = λ _. ended;
         tree = λ _. g.tree;
@@ -227,10 +229,10 @@ module _ {n : ℕ} {x y : Bor (List ℤ)} (p : Points) (o : Of n x y p) (r cs : 
       }
 
 -- ---- a refusal of the checks is told by its number: only a run is refused with 8
-not_eight : (n : ℕ) (pt : ℕ → Point) (s m : Bool) (r : List ℕ) → refusal n pt s m r ≡ 8 → ⊥
+pub not_eight : (n : ℕ) (pt : ℕ → Point) (s m : Bool) (r : List ℕ) → refusal n pt s m r ≡ 8 → ⊥
 not_eight n pt s m r h = both (seven_or_nineteen n pt s m r) (λ l. omega (arith, l, h)) (λ l. omega (arith, l.0, h))
 
-told_by : (r : Refusal) (ring : List ℕ) → (number_of r ≡ 8 → ⊥) → refusal_of r ring ≡ refused (number_of r)
+pub told_by : (r : Refusal) (ring : List ℕ) → (number_of r ≡ 8 → ⊥) → refusal_of r ring ≡ refused (number_of r)
 told_by (PicksUsedUp moves left) ring h = absurd (h refl)
 told_by r ring h = refl
 

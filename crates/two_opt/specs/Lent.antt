@@ -3,7 +3,7 @@ use Rattle.std.specs.Prelude.{◌≡◌, List, [], ◌∷◌, ◌++◌, ℕ, ◌
 use Rattle.geometry.specs.Plane.{Point}
 use Rattle.polygon.specs.Ring.{index_of}
 use Rattle.intersection_set.specs.Pool.{lent}
-use Rattle.machine.specs.Machine.{begin}
+use Rattle.machine.specs.Machine.{State, begin}
 use Rattle.box_tree.specs.Tree.{ring_tree, tree_size}
 use Rattle.resolve.specs.Ended.{Counted, Ended}
 use Rattle.resolve.specs.declared.resolve.Resolved.{Resolved}
@@ -54,10 +54,14 @@ pub record Starting (n : ℕ) (r : List ℕ) (was is : Loan) : Type 0 where
   pub enough : Enough n is
   pub beyond : past n is ≡ past n was
 
--- A run by the picks cs from the ring that the first entries of `was` hold: what it counts, what the first entries of `is` hold, and that the others are as
+-- A run by the picks cs from the state s, over the first entries of `was`: what it counts, what the first entries of `is` hold, and that the others are as
 -- they were.
-pub record RanIn (n : ℕ) (pt : ℕ → Point) (cs : List ℕ) (was is : Loan) (r : Resolved) : Type 0 where
-  pub counted : Counted n pt (begin n pt (take n was.ring)).now cs r.moves r.cross r.left
-  pub ended : Ended n pt (begin n pt (take n was.ring)).now cs (front n is).ring (front n is).index (front n is).records
+pub record RanFrom (n : ℕ) (pt : ℕ → Point) (s : State) (cs : List ℕ) (was is : Loan) (r : Resolved) : Type 0 where
+  pub counted : Counted n pt s cs r.moves r.cross r.left
+  pub ended : Ended n pt s cs (front n is).ring (front n is).index (front n is).records
   pub tree : (front n is).tree ≡ ring_tree n pt (front n is).ring
   pub beyond : past n is ≡ past n was
+
+-- the same from the start of the ring that they hold
+abbrev pub RanIn : (n : ℕ) → (ℕ → Point) → List ℕ → Loan → Loan → Resolved → Type 0
+RanIn n pt cs was is r = RanFrom n pt (begin n pt (take n was.ring)).now cs was is r

@@ -17,7 +17,7 @@ pub struct Delivered {
 }
 
 // A loop is delivered exactly when no record is left.
-fn answer_of(done: Resolved) -> Result<Delivered, Refusal>
+pub fn answer_of(done: Resolved) -> Result<Delivered, Refusal>
     ensures { (ring : List ℕ) → answer_of result ring ≡ cond (eqb done.left 0) (delivered ring done.moves done.cross) (unfinished ring done.moves done.left) }
 {
     let Resolved { moves, cross, left } = done;

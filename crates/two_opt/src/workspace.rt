@@ -83,9 +83,20 @@ fn resolve_in(
     resolve(&mut set, points, &mut polygon, tree, picks)
 }
 
+// A ring copied, and its index.
+fn copy_ring(from: &[u16], ring: &mut [u16], index: &mut [u16])
+    requires { let n = length from.now in
+        IsRing n from.now × (n < 65536) × (length ring.old ≡ n) × (length index.old ≡ n) }
+    ensures ring { ring.new ≡ from.now }
+    ensures index { index.new ≡ index_of (length from.now) from.now }
+{
+    ring.copy_from_slice(from);
+    rebuild_index(from, index);
+}
+
 impl<'a> Workspace<'a> {
     // A call with n points and these picks, with what checks 2 and 19 say of it.
-    pub(crate) fn given<'p>(&self, n: usize, x: &'p [i32], y: &'p [i32], picks: &[u32]) -> Given<'p>
+    pub fn given<'p>(&self, n: usize, x: &'p [i32], y: &'p [i32], picks: &[u32]) -> Given<'p>
         ensures points { (result.n ≡ n) × (result.x ≡ x.entry) × (result.y ≡ y.entry) }
         ensures short { n ≤ 256 → result.short ≡ short_of n x.now y.now (loan_of self.now) }
         ensures many { result.many ≡ too_many picks.now }
@@ -135,6 +146,17 @@ impl<'a> Workspace<'a> {
         ensures started { Starting n (take n self.old.ring.now) (loan_of self.old) (loan_of self.new) }
     {
         rebuild_index(&mut self.ring[..n], &mut self.index[..n]);
+    }
+
+    // A ring that is read elsewhere, and its index.
+    pub fn start_from(&mut self, ring: &[u16])
+        requires { let n = length ring.now in
+            (n < 65536) × Enough n (loan_of self.old) × IsRing n ring.now }
+        ensures same { SameWorkspace self.old self.new }
+        ensures started { Starting (length ring.now) ring.now (loan_of self.old) (loan_of self.new) }
+    {
+        let n = ring.len();
+        copy_ring(ring, &mut self.ring[..n], &mut self.index[..n]);
     }
 
     // A run from the ring that the first entries of `ring` and `index` hold.

@@ -19,20 +19,6 @@ use Rattle.sweeps.specs.declared.segment.Seen.{Seen}
 use Rattle.sweeps.proofs.Ends.{edge_is, proper_at, meet_comm}
 use Rattle.validate.specs.Drawn.{meet_at, first_behind, contact_from, meeting_or}
 
-module _ {n : ℕ} {pt : ℕ → Point} {r : List ℕ} (ring : IsRing n r) (distinct : Distinct n pt) (three : 3 ≤ n) (i : ℕ) (li : i < n) where
-  -- ---- one test
-  pub among : {v w : ℕ} (j : ℕ) → j < n → v ≡ at r j → w ≡ at r (next n j) → Among n pt (edge_at n r i) (edge v w)
-  among j lj ev ew =
-      let two : 2 ≤ n = omega (arith, three) in
-      record { distinct = distinct; first = proper_at ring two i li; second = subst (λ e. Proper n e) (sym (edge_is n r j ev ew)) (proper_at ring two j lj) }
-
-  -- an edge behind it is another, so that it is met where the two meet
-  pub met_at : (j : ℕ) → i < j → j < n → met pt (edge_at n r i) (edge_at n r j) ≡ meet_at n pt r i j
-  met_at j ij lj =
-      let two : 2 ≤ n = omega (arith, three) in
-      let other = eq_edge_false (edge_at n r j) (edge_at n r i) (λ e. absurd (let z = edges_differ n r ring three j i lj li e in omega (arith, z, ij))) in
-      rw other (sym (meet_comm distinct (proper_at ring two i li) (proper_at ring two j lj)))
-
 -- ---- those before position j
 -- None of them that is behind i meets the edge there; and `from` is seen where the edge at j starts.
 pub record Tested (n : ℕ) (pt : ℕ → Point) (r : List ℕ) (i j : ℕ) (from : Seen) : Type 0 where

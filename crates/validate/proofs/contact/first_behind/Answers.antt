@@ -5,7 +5,8 @@ use Rattle.index_edge.specs.Number.{edge_of}
 use Rattle.polygon.specs.Ring.{at}
 use Rattle.polygon.specs.Edges.{edge_at}
 use Rattle.sweeps.specs.Query.{met}
-use Rattle.validate.proofs.Behind.{tested_none, tested_found, tested_next, seen_as, met_at, there}
+use Rattle.sweeps.proofs.Ends.{met_at}
+use Rattle.validate.proofs.Behind.{tested_none, tested_found, tested_next, seen_as, there}
 use Rattle.validate.proofs.contact.first_behind.Goals as goal
 
 pub loop-j-init : goal.loop-j-init

@@ -3,14 +3,13 @@ use mathlib.Core.Path.{refl, sym, ◌∙◌, ap}
 use mir.Syntax.{w64}
 use mir.Val.{SFits}
 use borrow.Author.Rules.{rules}
-use Rattle.std.specs.Option.{is_some}
 use Rattle.algebra.specs.Cases.{or_no_left, or_no_right}
 use Rattle.geometry.specs.Plane.{turn, is_zero}
 use Rattle.geometry.specs.Contact.{kind, some_contact}
 use Rattle.geometry.specs.Spots.{spots}
 use Rattle.geometry.proofs.Reading.{read_given, zero_bits}
 use Rattle.index_edge.specs.Number.{edge_of}
-use Rattle.sweeps.proofs.Seeing.{from_below, to_below, contact_is, some_met, met_is, other_off}
+use Rattle.sweeps.proofs.Seeing.{from_below, to_below, contact_is, met_is, other_off}
 use Rattle.sweeps.proofs.pair.Pair.compare.Goals as goal
 
 pub at-from_point-requires : goal.at-from_point-requires

@@ -35,4 +35,4 @@ returns-clause-ran c =
     (same.index ∙ part_length n was.index refl enough.in_index)
     (record { in_heads = same.heads ∙ room.in_heads; in_ends = same.ends ∙ room.in_ends; in_links = same.links ∙ room.in_links; in_ages = same.ages ∙ room.in_ages; in_dense = same.dense ∙ room.in_dense; in_reverse = same.reverse ∙ room.in_reverse; in_free = same.free ∙ room.in_free; in_tangles = same.tangles ∙ room.in_tangles })
     (same.tree ∙ part_length c.tree_size.result was.tree c.tree_size.ensures enough.in_tree)
-    (spots a.points) a.picks.now c.resolve_in.ensures.tree c.resolve_in.ensures.ended
+    (spots a.points) _ a.picks.now c.resolve_in.ensures.tree c.resolve_in.ensures.ended
