@@ -1,0 +1,5 @@
+pub mod Image
+pub mod AgesAside
+pub mod Continued
+pub mod Fit
+pub mod Check
