@@ -1,0 +1,3 @@
+pub mod Marking
+pub mod Deciding
+pub mod Ordering
