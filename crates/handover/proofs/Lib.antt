@@ -1,0 +1,5 @@
+pub mod Left
+pub mod Saves
+pub mod Handing
+pub mod Filed
+pub mod BackAgain
