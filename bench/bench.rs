@@ -1,5 +1,5 @@
 //! The same boards and picks through the proved library and the original Rust, one after the other, in one process.
-//! Prints for each size and make of board the time of both and the ratio, then the growth from n to 2n, pair tests, then memory.
+//! Prints for each size and make of board the time of both and the ratio, then the growth from n to 2n, pair tests, single calls, then memory.
 #[allow(dead_code)] // the benchmark uses a part of the wrapper
 #[path = "../hosts/tour.rs"]
 mod tour;
@@ -200,33 +200,83 @@ fn measure_validate(n: usize) -> [u128; 2] {
     [ours, least_time(999, || _ = black_box(black_box(&polygon).validate()))]
 }
 
+/// A run of n points that stands still: after half of its moves, or at its start.
+struct Still {
+    points: [Vec<i32>; 2],
+    left: usize,
+    lent: Buffers,
+}
+
+fn still(make: &str, n: usize, is_half_way: bool) -> Still {
+    let b = board(make, n, 1);
+    let [x, y] = b.columns();
+    let mut lent = Buffers::new(n);
+    let Answer::Delivered { moves, .. } = tour::two_opt_moves(n, &x, &y, &b.picks, &mut lent) else { panic!("{make}: no loop") };
+    let made = if is_half_way { moves / 2 } else { 0 };
+    let Answer::Stopped { left, .. } = tour::two_opt_moves(n, &x, &y, &b.picks[..made], &mut lent) else { panic!("{make}: not stopped") };
+    Still { points: [x, y], left, lent }
+}
+
+/// How many records it has, and the time of saving it, and of taking it up with no picks. What is taken up has to give the same image again.
+fn measure_image(s: &Still) -> (usize, [u128; 2]) {
+    let ([x, y], n, left) = (&s.points, s.points[0].len(), s.left);
+    let [mut image, mut again] = [0, 1].map(|k| vec![k; tour::image_length(n, left)]);
+    let save = least_time(99, || assert_eq!(tour::save(n, black_box(x), black_box(y), left, &s.lent, &mut image), Ok(again.len())));
+    let (mut other_x, mut other_y, mut other) = (vec![0; n], vec![0; n], Buffers::new(n));
+    let taken_up = Answer::Stopped { moves: 0, left };
+    let take_up = least_time(99, || assert_eq!(tour::take_up(black_box(&image), &[], &mut other_x, &mut other_y, &mut other), taken_up));
+    assert_eq!(tour::save(n, &other_x, &other_y, left, &other, &mut again), Ok(image.len()));
+    assert_eq!(image, again);
+    (left, [save, take_up])
+}
+
 const DEPTH: usize = 1 << 20;
 const OWN: usize = 512;
 const PAINT: u8 = 0xa5;
 
 /// The stack that a call of the library uses, its wrapper's with it: the part below this frame is painted before the call, and looked at after it.
 #[inline(never)]
-fn stack_of_call(n: usize, x: &[i32], y: &[i32], picks: &[u32], lent: &mut Buffers) -> usize {
+fn stack_of_call(call: impl FnOnce()) -> usize {
     let mut here = 0u8;
     let top = black_box(&raw mut here);
     for depth in OWN..DEPTH {
         // SAFETY: inside the stack of this thread, which has more than DEPTH left; below this frame, where nothing lives.
         unsafe { top.sub(depth).write_volatile(PAINT) };
     }
-    black_box(tour::two_opt_moves(n, x, y, picks, lent));
+    call();
     let untouched = |depth: &usize| unsafe { top.sub(*depth).read_volatile() } == PAINT;
     DEPTH - (OWN..DEPTH).rev().take_while(untouched).count()
 }
 
-/// The same on the deepest of several boards, in a thread with room to paint.
+/// A thread with room to paint.
+fn with_room(measure: impl FnOnce() -> usize + Send + 'static) -> usize {
+    std::thread::Builder::new().stack_size(8 * DEPTH).spawn(measure).unwrap().join().unwrap()
+}
+
+/// The stack of an entry, on the deepest of several boards.
 fn stack_used(n: usize) -> usize {
     let used = move |make, seed| {
         let b = board(make, n, seed);
-        let [x, y] = b.columns();
-        stack_of_call(n, &x, &y, &b.picks, &mut Buffers::new(n))
+        let ([x, y], mut lent) = (b.columns(), Buffers::new(n));
+        stack_of_call(|| _ = black_box(tour::two_opt_moves(n, &x, &y, &b.picks, &mut lent)))
     };
-    let deepest = move || MAKES.iter().flat_map(|make| (0..4).map(move |seed| used(make, seed))).max().unwrap();
-    std::thread::Builder::new().stack_size(8 * DEPTH).spawn(deepest).unwrap().join().unwrap()
+    with_room(move || MAKES.iter().flat_map(|make| (0..4).map(move |seed| used(make, seed))).max().unwrap())
+}
+
+/// The stack of saving a run of n points, and of taking it up and going on to its loop.
+fn stack_of_image(make: &'static str, n: usize, is_half_way: bool) -> [usize; 2] {
+    let image = move || {
+        let s = still(make, n, is_half_way);
+        let mut image = vec![0; tour::image_length(n, s.left)];
+        let save = stack_of_call(|| _ = black_box(tour::save(n, &s.points[0], &s.points[1], s.left, &s.lent, &mut image)));
+        (save, image)
+    };
+    let take_up = move || {
+        let (image, picks) = (image().1, board(make, n, 1).picks);
+        let (mut x, mut y, mut lent) = (vec![0; n], vec![0; n], Buffers::new(n));
+        stack_of_call(|| _ = black_box(tour::take_up(&image, &picks, &mut x, &mut y, &mut lent)))
+    };
+    [with_room(move || image().0), with_room(take_up)]
 }
 
 fn main() {
@@ -260,8 +310,17 @@ fn main() {
     println!("\ncheck 4 of 256 points: {:.2} us", measure_ring(256) as f64 / 1e3);
     let [ours, theirs] = measure_validate(256).map(|t| t as f64 / 1e3);
     println!("\nvalidate of 256 points: {ours:.1} us, the original {theirs:.1} us");
+    let stills = [still("uniform", 256, true), still("row", 256, false)];
+    let [uniform, row] = stills.map(|s| measure_image(&s)).map(|(left, times)| (left, times.map(|t| t as f64 / 1e3)));
+    println!("\nof 256 points: a uniform board half way, {} records, and a row at its start, {} records; the original has no counterpart", uniform.0, row.0);
+    for (k, call) in ["save", "take_up with no picks"].iter().enumerate() {
+        println!("{call}: {:.1} us, {:.1} us", uniform.1[k], row.1[k]);
+    }
     println!("\nmemory of a call in bytes: lent (x, y, ring, index, eight buffers of n*(n-1), tree), picks aside; stack");
     for n in [48, 256] {
         println!("n {n:3}: lent {:8} stack {:6}", n * 12 + 30 * n * (n - 1) + 16 * (2 * n - 1), stack_used(n));
     }
+    let stacks = MAKES.map(|make| stack_of_image(make, 256, make == "uniform"));
+    let [save, take_up] = [0, 1].map(|k| stacks.map(|s| s[k]).into_iter().max().unwrap());
+    println!("n 256: stack of save {save:6}, of take_up {take_up:6}");
 }

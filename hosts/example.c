@@ -1,4 +1,4 @@
-/* A C host: reads a job, delivers its loop, asks for less, and breaks each rule once. scripts/hosts.sh runs it. */
+/* A C host: reads a job, delivers its loop, stops a run and takes it up again, asks for less, and breaks each rule once. scripts/hosts.sh runs it. */
 #include <stdio.h>
 #include <string.h>
 #include "tour.h"
@@ -9,12 +9,24 @@ static uint16_t ring[N + 1], index_of[N], work[5][PAIRS];
 static uint64_t words[2][PAIRS];
 static uint32_t ages[PAIRS], many_picks[1000001];
 static int32_t tree[TREE + 1];
+static uint8_t image[TOUR_IMAGE_LENGTH(N, PAIRS)];
 
 /* One call with all buffers; `room` is the length that the eight work buffers are lent with. */
 static tour_answer call(int from_ring, size_t n, const int32_t *x, const int32_t *y, const uint32_t *picks, size_t picks_len, size_t room) {
     return (from_ring ? tour_resolve_self_intersections : tour_two_opt_moves)(n, x, N, y, N, picks, picks_len, ring, N, index_of, N,
         work[0], room, words[0], room, words[1], room, ages, room, work[1], room, work[2], room, work[3], room, work[4], room,
         tree, TREE);
+}
+
+/* A run from an image, in buffers that hold nothing of use. */
+static tour_answer take_up(size_t image_len, const uint32_t *picks, size_t picks_len, int32_t *x, int32_t *y) {
+    memset(ring, 0xa5, N * sizeof *ring);
+    memset(work, 0xa5, sizeof work);
+    memset(words, 0xa5, sizeof words);
+    memset(ages, 0xa5, sizeof ages);
+    memset(tree, 0xa5, TREE * sizeof *tree);
+    return tour_take_up(image, image_len, picks, picks_len, x, N, y, N, ring, N, index_of, N, work[0], PAIRS, words[0], PAIRS,
+        words[1], PAIRS, ages, PAIRS, work[1], PAIRS, work[2], PAIRS, work[3], PAIRS, work[4], PAIRS, tree, TREE);
 }
 
 /* The edge that starts at a position of a ring, its smaller point first. */
@@ -66,6 +78,11 @@ static void show_by_age(size_t left) {
         uint64_t w = words[0][slots[i]];
         printf("  age %u %u-%u %u-%u\n", (unsigned)ages[slots[i]], TOUR_MIN0(w), TOUR_MAX0(w), TOUR_MIN1(w), TOUR_MAX1(w));
     }
+}
+
+/* A refusal with its words. */
+static void show_refused(const char *title, tour_answer a) {
+    printf("%s: code %u, %s\n", title, (unsigned)a.code, tour_words(a.code));
 }
 
 /* The edges that meet the edge of a and b by the records left, newest first. */
@@ -135,6 +152,43 @@ static void show_check(const char *title, size_t n, const int32_t *x, const int3
     show_contact("  how they meet", ends);
 }
 
+/* The image goes to a file, and comes back from it; its length, or 0 where that fails. */
+static size_t through_a_file(size_t length) {
+    FILE *file = tmpfile();
+    if (!file) return 0;
+    int is_written = fwrite(image, 1, length, file) == length;
+    memset(image, 0, sizeof image);
+    rewind(file);
+    size_t read = is_written ? fread(image, 1, sizeof image, file) : 0;
+    fclose(file);
+    return read;
+}
+
+/* A run that is not stopped; one that is stopped before the pick `stop`, saved and taken up in other buffers, where it goes on with the other picks; and images
+ * that are refused. */
+static void stop_and_go_on(size_t n, const int32_t *x, const int32_t *y, const uint32_t *picks, size_t picks_len, size_t stop) {
+    int32_t other_x[N] = {0}, other_y[N] = {0};
+    uint16_t loop[N];
+    tour_answer whole = call(0, n, x, y, picks, picks_len, PAIRS);
+    show("not stopped", n, whole);
+    memcpy(loop, ring, sizeof loop);
+    tour_answer first = call(0, n, x, y, picks, stop, PAIRS);
+    show("stopped", n, first);
+    tour_saved saved = tour_save(n, x, N, y, N, ring, N, first.left, work[1], PAIRS, words[0], PAIRS, ages, PAIRS, image, sizeof image);
+    printf("saved: code %u length %zu\n", (unsigned)saved.code, saved.length);
+    size_t length = through_a_file(saved.length);
+    tour_answer rest = take_up(length, picks + stop, picks_len - stop, other_x, other_y);
+    show("taken up", n, rest);
+    printf("  %s loop, %zu moves and %zu, not stopped %zu\n", memcmp(loop, ring, sizeof loop) == 0 ? "the same" : "another", first.moves, rest.moves,
+        whole.moves);
+    show("taken up, no picks", n, take_up(length, NULL, 0, other_x, other_y));
+    printf("  %s points\n", memcmp(x, other_x, sizeof other_x) == 0 && memcmp(y, other_y, sizeof other_y) == 0 ? "the same" : "other");
+    show_by_age(first.left);
+    show_refused("image cut off", take_up(length - 1, NULL, 0, other_x, other_y));
+    image[length - 4] ^= 1; /* in the last record's age */
+    show_refused("image, a byte changed", take_up(length, NULL, 0, other_x, other_y));
+}
+
 static void put_word(uint8_t *job, size_t *at, uint32_t w) {
     for (int k = 0; k < 4; k++) job[(*at)++] = (uint8_t)(w >> 8 * k);
 }
@@ -184,6 +238,8 @@ int main(void) {
     show_by_age(five.left);
     show_tree(0, 5, tree);
     show_query("  worst edge", 5, five_x, five_y, ring, TREE, worst(5));
+    static const int32_t eight_x[N] = {0, 4, 2, 5, 1, 3, 2, 5}, eight_y[N] = {3, 1, 3, 1, 1, 3, 0, 3};
+    stop_and_go_on(8, eight_x, eight_y, (uint32_t[]){0, 1, 2, 3, 4, 5, 6, 7, 8, 9}, 10, 6);
     show("1000000 picks", 7, call(0, 7, row_x, row_y, many_picks, 1000000, PAIRS));
     show("1000001 picks", 7, call(0, 7, row_x, row_y, many_picks, 1000001, PAIRS));
     show("1000001 picks, too far", 7, call(0, 7, (int32_t[N]){1000000001}, row_y, many_picks, 1000001, PAIRS));
@@ -235,5 +291,7 @@ int main(void) {
     show_contact("no segment", (const int32_t[]){0, 0, 0, 0, 1, 0, 2, 0});
     printf("meets: %u %u %u %u\n", (unsigned)tour_meets(0, 0, 4, 0, 2, 0, 2, 3), (unsigned)tour_meets(0, 0, 4, 0, 4, 0, 2, 0),
         (unsigned)tour_meets(0, 0, 2, 0, 2, 0, 4, 0), (unsigned)tour_meets(0, 0, 0, 0, 1, 0, 2, 0));
+    for (uint32_t code = 0; code < 256; code++)
+        if (*tour_words(code)) printf("refusal %u: %s\n", (unsigned)code, tour_words(code));
     return 0;
 }

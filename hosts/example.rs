@@ -52,6 +52,64 @@ fn show_query(title: &str, n: usize, x: &[i32], y: &[i32], ring: &[u16], tree: &
     }
 }
 
+/// The records left, the one made first at the front.
+fn show_by_age(left: usize, lent: &Buffers) {
+    let mut by_age: Vec<(u32, [u16; 4])> = lent.ages(left).zip(lent.records(left)).collect();
+    by_age.sort();
+    for (age, [a, b, c, d]) in by_age {
+        println!("  age {age} {a}-{b} {c}-{d}");
+    }
+}
+
+/// A refusal with its words.
+fn show_refused(title: &str, answer: Answer) {
+    let Answer::Refused(code) = answer else { panic!("not refused") };
+    println!("{title}: code {code}, {}", tour::words(code));
+}
+
+/// The image goes to a file, and comes back from it.
+fn through_a_file(image: &[u8]) -> std::io::Result<Vec<u8>> {
+    let path = std::env::temp_dir().join(format!("tour-{}.image", std::process::id()));
+    std::fs::write(&path, image)?;
+    let read = std::fs::read(&path);
+    std::fs::remove_file(&path)?;
+    read
+}
+
+/// A run that is not stopped; one that is stopped before the pick `stop`, saved and taken up in other buffers, where it goes on with the other picks; and
+/// images that are refused.
+fn stop_and_go_on(x: &[i32], y: &[i32], picks: &[u32], stop: usize) {
+    let n = x.len();
+    let mut whole = Buffers::new(n);
+    let a = tour::two_opt_moves(n, x, y, picks, &mut whole);
+    show("not stopped", n, a, &whole);
+    let Answer::Delivered { moves: all, .. } = a else { panic!("no loop") };
+
+    let mut lent = Buffers::new(n);
+    let a = tour::two_opt_moves(n, x, y, &picks[..stop], &mut lent);
+    show("stopped", n, a, &lent);
+    let Answer::Stopped { moves: before, left } = a else { panic!("not stopped") };
+    let mut image = vec![0; tour::image_length(n, left)];
+    let length = tour::save(n, x, y, left, &lent, &mut image).expect("a state that a run left");
+    println!("saved: code 0 length {length}");
+    let mut image = through_a_file(&image).expect("a file");
+
+    let (mut other_x, mut other_y, mut other) = (vec![0; n], vec![0; n], Buffers::new(n));
+    let a = tour::take_up(&image, &picks[stop..], &mut other_x, &mut other_y, &mut other);
+    show("taken up", n, a, &other);
+    let Answer::Delivered { moves: after, .. } = a else { panic!("no loop") };
+    let is_same = |same| if same { "the same" } else { "another" };
+    println!("  {} loop, {before} moves and {after}, not stopped {all}", is_same(other.ring == whole.ring));
+    let a = tour::take_up(&image, &[], &mut other_x, &mut other_y, &mut other);
+    show("taken up, no picks", n, a, &other);
+    println!("  {} points", is_same(x == other_x && y == other_y));
+    show_by_age(left, &other);
+
+    show_refused("image cut off", tour::take_up(&image[..length - 1], &[], &mut other_x, &mut other_y, &mut other));
+    image[length - 4] ^= 1; // in the last record's age
+    show_refused("image, a byte changed", tour::take_up(&image, &[], &mut other_x, &mut other_y, &mut other));
+}
+
 fn code<T>(answer: Result<T, u32>) -> u32 {
     answer.err().unwrap_or(0)
 }
@@ -133,14 +191,11 @@ fn main() {
     let a = tour::two_opt_moves(5, &five.0, &five.1, &[0], &mut lent);
     show("five points, one pick", 5, a, &lent);
     let Answer::Stopped { left, .. } = a else { panic!("a loop") };
-    let mut by_age: Vec<(u32, [u16; 4])> = lent.ages(left).zip(lent.records(left)).collect();
-    by_age.sort();
-    for (age, [a, b, c, d]) in by_age {
-        println!("  age {age} {a}-{b} {c}-{d}");
-    }
+    show_by_age(left, &lent);
     show_tree(0, 5, tour::boxes(&lent.tree));
     let at = worst(5, &lent);
     show_query("  worst edge", 5, &five.0, &five.1, &lent.ring, &mut lent.tree, at);
+    stop_and_go_on(&[0, 4, 2, 5, 1, 3, 2, 5], &[3, 1, 3, 1, 1, 3, 0, 3], &[0, 1, 2, 3, 4, 5, 6, 7, 8, 9], 6);
     let many = vec![0; 1_000_001];
     let a = tour::two_opt_moves(7, &row.0, &row.1, &many[1..], &mut lent);
     show("1000000 picks", 7, a, &lent);
@@ -231,4 +286,7 @@ fn main() {
         tour::meets([[0, 0], [0, 0]], [[1, 0], [2, 0]]),
     ];
     println!("meets: {}", met.map(|m| m.map_or_else(|code| code, u32::from).to_string()).join(" "));
+    for code in (0..256).filter(|&code| !tour::words(code).is_empty()) {
+        println!("refusal {code}: {}", tour::words(code));
+    }
 }

@@ -3,10 +3,10 @@
  * A slice is a pointer and a length in elements; where the length is 0 the pointer may be NULL. What the functions cannot
  * see, and the host answers for: a pointer is good for its length and aligned, and no buffer that a call writes shares memory with another
  * buffer of the same call. Everything else is checked before anything is written, in the order 1, 2, 19, 3 to 7 (a job: 9 to 13, then 2; a drawn
- * ring: 1 to 6, 14, 15):
+ * ring: 1 to 6, 14, 15; a run that is saved: 1 to 7, 21; an image: 20, 1, 2, 19, 3 to 7, 21). tour_words says them in short:
  *
  *    1  more than 256 points
- *    2  a buffer shorter than the call needs, or an edge's position that is n or more
+ *    2  a buffer shorter than the call needs, an edge's position that is n or more, or more than n * (n - 1) records to be saved
  *    3  a coordinate outside -1000000000 .. 1000000000, or a bare segment with equal ends
  *    4  a lent ring that does not name each point once (tour_ring_fault tells which entry is wrong)
  *    5  two equal points          6  fewer than three points          7  every vertex on one line with its neighbours
@@ -16,9 +16,14 @@
  *   13  a byte that belongs to both areas of a job                       19  more than 1000000 picks
  *   14  the least point of a drawn ring, in the order of x, then y, does not turn counter-clockwise
  *   15  two edges of a drawn ring meet
+ *   20  an image shorter than 28 bytes, a total word that is not its length, a record width that is neither 8 nor 12, or an area that starts before
+ *       byte 28 or ends past the total
+ *   21  records that do not name exactly the pairs of edges of the ring that meet, each once or twice, the smaller edge first; ages of an image that are
+ *       not 0 up to their count less one; to be saved, two equal ages or a slot that is n * (n - 1) or more
  *
  * Every refusal but 8 leaves all buffers of the call as they were. No function keeps a pointer, allocates or fails otherwise;
- * calls in different threads do not touch each other.
+ * calls in different threads do not touch each other. tour_save and tour_take_up have a table of 261120 bytes on the stack and so take about 270000 of it,
+ * any other call less than 5000.
  */
 #ifndef TOUR_H
 #define TOUR_H
@@ -31,6 +36,31 @@ typedef struct {
     uint32_t code;
     size_t moves, cross, left;
 } tour_answer;
+
+/* A refusal in words, for people; "" for a number that is none. */
+static inline const char *tour_words(uint32_t code) {
+    switch (code) {
+    case 1: return "more than 256 points";
+    case 2: return "a lent buffer has too few entries";
+    case 3: return "a coordinate is beyond the limits, or a segment has no length";
+    case 4: return "the ring does not name each point once";
+    case 5: return "two points are equal";
+    case 6: return "fewer than three points";
+    case 7: return "all points lie on one line";
+    case 8: return "the picks are used up, and edges still meet";
+    case 9: return "the job has fewer than 20 bytes or more than 16384";
+    case 10: return "the total in the job's header is not its length";
+    case 11: return "the job has more than 48 points";
+    case 12: return "an area of the job is not within it";
+    case 13: return "the areas of the job share bytes";
+    case 14: return "the least point does not turn counter-clockwise";
+    case 15: return "two edges meet";
+    case 19: return "more than 1000000 picks";
+    case 20: return "the image has a wrong length, record width or area";
+    case 21: return "the records or their ages are not those of the ring";
+    default: return "";
+    }
+}
 
 /* The entries of n points. They need
  *    x, y, ring, index           n elements each
@@ -64,18 +94,46 @@ typedef struct {
 #define TOUR_NEXT1(links) TOUR_PART(links, 2)
 #define TOUR_PREV1(links) TOUR_PART(links, 3)
 
-#define TOUR_WORK \
-    size_t n, const int32_t *x, size_t x_len, const int32_t *y, size_t y_len, const uint32_t *picks, size_t picks_len, \
+#define TOUR_LENT \
     uint16_t *ring, size_t ring_len, uint16_t *index, size_t index_len, uint16_t *heads, size_t heads_len, \
     uint64_t *ends, size_t ends_len, uint64_t *links, size_t links_len, uint32_t *ages, size_t ages_len, \
     uint16_t *dense, size_t dense_len, uint16_t *reverse, size_t reverse_len, uint16_t *release, size_t release_len, \
     uint16_t *tangles, size_t tangles_len, int32_t *tree, size_t tree_len
+#define TOUR_WORK \
+    size_t n, const int32_t *x, size_t x_len, const int32_t *y, size_t y_len, const uint32_t *picks, size_t picks_len, TOUR_LENT
 
 /* A loop through the points, starting in their own order 0, 1, 2, .. */
 tour_answer tour_two_opt_moves(TOUR_WORK);
 
 /* A loop through the points, starting from the lent ring. */
 tour_answer tour_resolve_self_intersections(TOUR_WORK);
+
+/* A stopped run as a file, its image, little-endian throughout. First come seven 32-bit words: how many points it has and the byte where their area
+ * starts, the byte where the ring's starts, how many records it has and the byte where theirs starts, the bytes that a record takes, 8 or 12, and the
+ * bytes of the whole. A point is two signed 32-bit words, x and y; a ring entry, for each position, a 16-bit point number. A record is min0, max0, min1,
+ * max1, of 16 bits each, and where it takes 12 bytes a 32-bit age; records stand in dense order. So long is one that tour_save writes, 785948 bytes at most: */
+#define TOUR_IMAGE_LENGTH(n, records) (28 + 10 * (size_t)(n) + 12 * (size_t)(records))
+
+/* code 0: the length of the image. Any other code: a refusal (1 to 7, or 21), and length is 0. */
+typedef struct {
+    uint32_t code;
+    size_t length;
+} tour_saved;
+
+/* The image of a stopped run, to out[0 .. length-1]: of the n points, and of ring, dense, ends and ages as the run left them, left being the number of
+ * records that it told. The ages need only differ: in the image they are numbered from 0, in the same order. x, y and ring need n elements each, dense, ends
+ * and ages n * (n - 1), out TOUR_IMAGE_LENGTH(n, left); all but out are only read. */
+tour_saved tour_save(size_t n, const int32_t *x, size_t x_len, const int32_t *y, size_t y_len, const uint16_t *ring, size_t ring_len,
+    size_t left, const uint16_t *dense, size_t dense_len, const uint64_t *ends, size_t ends_len, const uint32_t *ages, size_t ages_len,
+    uint8_t *out, size_t out_len);
+
+/* Goes on with the picks from an image. It needs what the entries need for n points, n being the image's first word; x and y are written too, and all may
+ * hold anything at first. Code 0 and 8: x[0 .. n-1] and y[0 .. n-1] are the image's points, and all else is as an entry leaves it; moves are counted from 0,
+ * and cross is how many records the image has. A record of the image has its dense place as its slot, and without an age of its own as its age too; the next
+ * one's age is how many they are. From an image that tour_save wrote, with at most 1000000 picks in all, a run picks, moves and ends as the one that was not
+ * stopped, ages and slots aside. */
+tour_answer tour_take_up(const uint8_t *image, size_t image_len, const uint32_t *picks, size_t picks_len,
+    int32_t *x, size_t x_len, int32_t *y, size_t y_len, TOUR_LENT);
 
 /* code 0: the ring names each point once. code 4: position is that of its first entry that is n or more or repeats an earlier one.
  * Any other code: a refusal (1 or 2). What a code does not name is 0. */

@@ -12,6 +12,12 @@ mod raw {
     }
 
     #[repr(C)]
+    pub struct Saved {
+        pub code: u32,
+        pub length: usize,
+    }
+
+    #[repr(C)]
     pub struct Fault {
         pub code: u32,
         pub position: usize,
@@ -59,15 +65,18 @@ mod raw {
         pub picks: usize,
     }
 
+    // Each is given what stands in its brackets, and then lent the buffers.
     macro_rules! entries {
-        ($($entry:ident),*) => {
+        ($($entry:ident($($given:ident: $of:ty),*)),*) => {
             #[link(name = "host", kind = "static")]
             unsafe extern "C" {
-                $(pub fn $entry(n: usize, x: *const i32, x_len: usize, y: *const i32, y_len: usize, picks: *const u32, picks_len: usize,
-                    ring: *mut u16, ring_len: usize, index: *mut u16, index_len: usize, heads: *mut u16, heads_len: usize,
+                $(pub fn $entry($($given: $of,)* ring: *mut u16, ring_len: usize, index: *mut u16, index_len: usize, heads: *mut u16, heads_len: usize,
                     ends: *mut u64, ends_len: usize, links: *mut u64, links_len: usize, ages: *mut u32, ages_len: usize,
                     dense: *mut u16, dense_len: usize, reverse: *mut u16, reverse_len: usize, free: *mut u16, free_len: usize,
                     tangles: *mut u16, tangles_len: usize, tree: *mut i32, tree_len: usize) -> Answer;)*
+                pub fn tour_save(n: usize, x: *const i32, x_len: usize, y: *const i32, y_len: usize, ring: *const u16, ring_len: usize, left: usize,
+                    dense: *const u16, dense_len: usize, ends: *const u64, ends_len: usize, ages: *const u32, ages_len: usize,
+                    out: *mut u8, out_len: usize) -> Saved;
                 pub fn tour_ring_fault(n: usize, ring: *const u16, ring_len: usize) -> Fault;
                 pub fn tour_feed(n: usize, x: *const i32, x_len: usize, y: *const i32, y_len: usize, ring: *const u16, ring_len: usize) -> Fed;
                 pub fn tour_query(n: usize, x: *const i32, x_len: usize, y: *const i32, y_len: usize, ring: *const u16, ring_len: usize,
@@ -80,7 +89,11 @@ mod raw {
             }
         };
     }
-    entries!(tour_two_opt_moves, tour_resolve_self_intersections);
+    entries!(
+        tour_two_opt_moves(n: usize, x: *const i32, x_len: usize, y: *const i32, y_len: usize, picks: *const u32, picks_len: usize),
+        tour_resolve_self_intersections(n: usize, x: *const i32, x_len: usize, y: *const i32, y_len: usize, picks: *const u32, picks_len: usize),
+        tour_take_up(image: *const u8, image_len: usize, picks: *const u32, picks_len: usize, x: *mut i32, x_len: usize, y: *mut i32, y_len: usize)
+    );
 }
 
 /// What an entry answers.
@@ -92,6 +105,31 @@ pub enum Answer {
     Stopped { moves: usize, left: usize },
     /// The number of the refusal; every buffer is as it was.
     Refused(u32),
+}
+
+/// A refusal in words, for people; empty for a number that is none.
+pub fn words(code: u32) -> &'static str {
+    match code {
+        1 => "more than 256 points",
+        2 => "a lent buffer has too few entries",
+        3 => "a coordinate is beyond the limits, or a segment has no length",
+        4 => "the ring does not name each point once",
+        5 => "two points are equal",
+        6 => "fewer than three points",
+        7 => "all points lie on one line",
+        8 => "the picks are used up, and edges still meet",
+        9 => "the job has fewer than 20 bytes or more than 16384",
+        10 => "the total in the job's header is not its length",
+        11 => "the job has more than 48 points",
+        12 => "an area of the job is not within it",
+        13 => "the areas of the job share bytes",
+        14 => "the least point does not turn counter-clockwise",
+        15 => "two edges meet",
+        19 => "more than 1000000 picks",
+        20 => "the image has a wrong length, record width or area",
+        21 => "the records or their ages are not those of the ring",
+        _ => "",
+    }
 }
 
 /// The ring and the work buffers that a call is lent.
@@ -162,15 +200,13 @@ fn parts(word: u64) -> [u16; 4] {
 }
 
 macro_rules! call {
-    ($entry:ident, $n:expr, $x:expr, $y:expr, $picks:expr, $lent:expr) => {{
-        let (x, y, picks): (&[i32], &[i32], &[u32]) = ($x, $y, $picks);
+    ($entry:ident, $lent:expr, $($given:expr),*) => {{
         let Buffers { ring, index, ends, links, ages, heads, dense, reverse, free, tangles, tree } = $lent;
         // SAFETY: every pointer and length is of a live slice, and the borrow checker keeps the `&mut` ones apart.
         let answer = unsafe {
-            raw::$entry($n, x.as_ptr(), x.len(), y.as_ptr(), y.len(), picks.as_ptr(), picks.len(), ring.as_mut_ptr(), ring.len(),
-                index.as_mut_ptr(), index.len(), heads.as_mut_ptr(), heads.len(), ends.as_mut_ptr(), ends.len(),
-                links.as_mut_ptr(), links.len(), ages.as_mut_ptr(), ages.len(), dense.as_mut_ptr(), dense.len(), reverse.as_mut_ptr(), reverse.len(),
-                free.as_mut_ptr(), free.len(), tangles.as_mut_ptr(), tangles.len(), tree.as_mut_ptr(), tree.len())
+            raw::$entry($($given,)* ring.as_mut_ptr(), ring.len(), index.as_mut_ptr(), index.len(), heads.as_mut_ptr(), heads.len(),
+                ends.as_mut_ptr(), ends.len(), links.as_mut_ptr(), links.len(), ages.as_mut_ptr(), ages.len(), dense.as_mut_ptr(), dense.len(),
+                reverse.as_mut_ptr(), reverse.len(), free.as_mut_ptr(), free.len(), tangles.as_mut_ptr(), tangles.len(), tree.as_mut_ptr(), tree.len())
         };
         match answer.code {
             0 => Answer::Delivered { moves: answer.moves, cross: answer.cross },
@@ -182,12 +218,36 @@ macro_rules! call {
 
 /// A loop through the first n points, starting in their own order.
 pub fn two_opt_moves(n: usize, x: &[i32], y: &[i32], picks: &[u32], lent: &mut Buffers) -> Answer {
-    call!(tour_two_opt_moves, n, x, y, picks, lent)
+    call!(tour_two_opt_moves, lent, n, x.as_ptr(), x.len(), y.as_ptr(), y.len(), picks.as_ptr(), picks.len())
 }
 
 /// A loop through the first n points, starting from `lent.ring`.
 pub fn resolve_self_intersections(n: usize, x: &[i32], y: &[i32], picks: &[u32], lent: &mut Buffers) -> Answer {
-    call!(tour_resolve_self_intersections, n, x, y, picks, lent)
+    call!(tour_resolve_self_intersections, lent, n, x.as_ptr(), x.len(), y.as_ptr(), y.len(), picks.as_ptr(), picks.len())
+}
+
+/// The bytes of the image of n points and so many records.
+pub fn image_length(n: usize, records: usize) -> usize {
+    28 + 10 * n + 12 * records
+}
+
+/// Saves a stopped run: writes its image, a file that tour.h describes, to the start of `out`, and answers its length. The run left ring and records in
+/// `lent`, and told that `left` records are left. The error is the number of the refusal: 1 to 7, or 21; 2 also where `out` has fewer than
+/// `image_length(n, left)` bytes.
+pub fn save(n: usize, x: &[i32], y: &[i32], left: usize, lent: &Buffers, out: &mut [u8]) -> Result<usize, u32> {
+    let Buffers { ring, dense, ends, ages, .. } = lent;
+    // SAFETY: as above.
+    let saved = unsafe {
+        raw::tour_save(n, x.as_ptr(), x.len(), y.as_ptr(), y.len(), ring.as_ptr(), ring.len(), left, dense.as_ptr(), dense.len(),
+            ends.as_ptr(), ends.len(), ages.as_ptr(), ages.len(), out.as_mut_ptr(), out.len())
+    };
+    if saved.code == 0 { Ok(saved.length) } else { Err(saved.code) }
+}
+
+/// Goes on with the picks from an image, whose first four bytes are the number of its points, the lowest first. What x, y and `lent` hold at first is not
+/// read; the points, the ring and the records of the run are left there. Moves are counted from 0, and `cross` is how many records the image has.
+pub fn take_up(image: &[u8], picks: &[u32], x: &mut [i32], y: &mut [i32], lent: &mut Buffers) -> Answer {
+    call!(tour_take_up, lent, image.as_ptr(), image.len(), picks.as_ptr(), picks.len(), x.as_mut_ptr(), x.len(), y.as_mut_ptr(), y.len())
 }
 
 /// The position of the first entry of the ring's first n that is n or more or repeats an earlier one; `None` where each point is named once. The

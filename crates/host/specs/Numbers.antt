@@ -23,6 +23,7 @@ use Rattle.host.specs.declared.job_file.TourJob.{TourJob}
 use Rattle.host.specs.declared.loop_feed.TourFeed.{TourFeed}
 use Rattle.host.specs.declared.ring_fault.TourFault.{TourFault}
 use Rattle.host.specs.declared.drawn.TourChecked.{TourChecked}
+use Rattle.host.specs.declared.stopped.TourSaved.{TourSaved}
 
 -- 0 for a delivered loop, else the number of the refusal, with the counts that belong to it
 abbrev pub in_numbers : Answer → TourAnswer
@@ -61,6 +62,11 @@ abbrev pub check_in_numbers : Check → TourChecked
 check_in_numbers passed = record { code = 0; first = 0; second = 0 }
 check_in_numbers (meeting i j) = record { code = 15; first = i; second = j }
 check_in_numbers (rejected number) = record { code = number; first = 0; second = 0 }
+
+-- 0 for a saved state, with the bytes that its image takes, else the number of the refusal
+abbrev pub saved_in_numbers : Told ℕ → TourSaved
+saved_in_numbers (answered size) = record { code = 0; length = size }
+saved_in_numbers (denied number) = record { code = number; length = 0 }
 
 -- What is told of a lent loop: the feed of the ring's first n entries, or the first of the checks 1 to 4 that fails; x, y and ring need n entries each.
 unfoldable pub fed : ℕ → (x y : List ℤ) (ring : List ℕ) → Told ℕ

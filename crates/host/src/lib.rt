@@ -9,3 +9,4 @@ pub mod loop_feed;
 pub mod loops;
 pub mod meeting;
 pub mod ring_fault;
+pub mod stopped;
