@@ -10,32 +10,36 @@
 // over the edges of the ring by position, a node before its whole first half (k/2 of its k edges, rounded down) and that before its second.
 // The original has no ages and no tree: the ages are the definition's; the counts are those of its records, the boxes those of its ring.
 // A case that is cut off, of another kind, of more than 4,096 picks, or of one made more than 1,000,001 times is answered by `bad case K`,
-// counted from 1, and ends the run.
+// counted from 1, and ends the run. What is answered is written before more input is waited for. Input that cannot be read ends there; a write that fails is no
+// error.
 #![tactic(auto)]
 
 mod answer;
 mod case;
 mod solve;
 
-use case::next_case;
+use case::{BODY, is_ahead, next_case};
 use solve::Buffers;
-use std::io::{self, BufWriter, Read, Write};
+use std::io::{self, BufReader, BufWriter, Write};
 
 fn main(rt: HostRuntime) -> io::Result<()> {
-    let mut input = Vec::new(rt.alloc());
-    rt.reader().read_to_end(&mut input)?;
+    let mut input = BufReader::new(rt.alloc(), rt.reader())?;
     let mut out = BufWriter::new(rt.alloc(), io::writer(&rt))?;
     let mut buffers = Buffers::new(rt.alloc())?;
-    let mut rest = input.as_slice();
+    let mut body = [0; BODY];
     for number in 1..u64::MAX {
-        match next_case(&mut rest) {
+        match next_case(&mut input, &mut body) {
             Ok(Some(case)) => buffers.solve(rt.alloc(), case, &mut out)?,
             Ok(None) => break,
             Err(_) => {
-                writeln!(out, "bad case {number}")?;
+                let _ = writeln!(out, "bad case {number}");
                 break;
             }
         }
+        if !is_ahead(input.buffer()) {
+            let _ = out.flush();
+        }
     }
-    out.flush()
+    let _ = out.flush();
+    Ok(())
 }

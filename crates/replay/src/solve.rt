@@ -3,7 +3,7 @@ use super::answer::write_answer;
 use super::case::{Case, Kind};
 use refusal::Refusal;
 use std::alloc::{AllocError, Global};
-use std::io::{self, Write};
+use std::io::Write;
 use two_opt::entries::{Delivered, resolve_self_intersections, two_opt_moves};
 use two_opt::workspace::Workspace;
 
@@ -83,15 +83,15 @@ impl Buffers {
         }
     }
 
-    // Runs a case and writes its answer. A case without a ring starts with any; an entry that 16 bits do not hold names no point, as 65,535 does.
+    // Runs a case and writes its answer; a write that fails is passed over. A case without a ring starts with any; an entry that 16 bits do not hold names no
+    // point, as 65,535 does.
     pub fn solve<W: Write>(
         &mut self,
         alloc: Global,
         case: Case<'_>,
         out: &mut W,
-    ) -> io::Result<()> {
+    ) -> Result<(), AllocError> {
         let points = case.points.as_chunks::<2>().0;
-        let n = points.len();
         let x = points
             .iter()
             .map(|p| i32::from_le_bytes(p[0]))
@@ -105,9 +105,9 @@ impl Buffers {
             u16::MAX,
         ));
         let mut ring = entries.collect::<Vec<u16>>(alloc)?;
-        ring.resize(n, 0)?;
-        let done = self.run(case.kind, n, &x, &y, &picks, &mut ring);
-        write_answer(
+        ring.resize(points.len(), 0)?;
+        let done = self.run(case.kind, case.n, &x, &y, &picks, &mut ring);
+        let _ = write_answer(
             out,
             done,
             &ring,
@@ -116,6 +116,7 @@ impl Buffers {
             &self.ages,
             &self.tangles,
             &self.tree,
-        )
+        );
+        Ok(())
     }
 }

@@ -1,11 +1,12 @@
-// Runs many jobs as `tourjob` runs one. Standard input is a row of jobs, each behind its length as a little-endian 32-bit word.
+// Runs many jobs as `tourjob` runs one. Standard input is a row of jobs, each behind its length as a little-endian 32-bit word. Each is answered
+// before more input is waited for. Input that cannot be read ends there; a write that fails is no error.
 #![tactic(auto)]
 
-use std::io::{self, BufReader, BufWriter, Read, Write};
+use std::io::{self, BufReader, Read, Write};
 
 fn main(rt: HostRuntime) -> io::Result<()> {
     let mut input = BufReader::new(rt.alloc(), rt.reader())?;
-    let mut output = BufWriter::new(rt.alloc(), io::writer(&rt))?;
+    let mut output = io::writer(&rt);
     let mut head = [0; 4];
     let mut job = [0; 16385];
     let mut out = [0; 4096];
@@ -18,7 +19,7 @@ fn main(rt: HostRuntime) -> io::Result<()> {
             break;
         }
         let k = tour::tour(&job[..n], &mut out);
-        output.write_all(&out[..k])?;
+        let _ = output.write_all(&out[..k]);
     }
-    output.flush()
+    Ok(())
 }

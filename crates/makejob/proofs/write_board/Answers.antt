@@ -5,7 +5,7 @@ use Rattle.job.proofs.Encoding.{fitted, made_length}
 use Rattle.makejob.proofs.write_board.Goals as goal
 
 pub unwrap-n-requires : goal.unwrap-n-requires
-unwrap-n-requires g c =
+unwrap-n-requires c =
     let x = length c.deref.result.now in
     let y = length c.deref-2.result.now in
     let picks = length c.deref-3.result.now in
@@ -18,8 +18,8 @@ unwrap-n-requires g c =
     rw (c.write_job.ensures.answer ∙ fitted x y picks 16384 (20 + 8 * x + 4 * picks) f) refl
 
 pub slice_bounds-out-end : goal.slice_bounds-out-end
-slice_bounds-out-end g c = (made_length (rw c.unwrap-n.ensures at c.write_job.ensures)).0
+slice_bounds-out-end c = (made_length (rw c.unwrap-n.ensures at c.write_job.ensures)).0
 
 pub slice_bounds-write_all-end : goal.slice_bounds-write_all-end
-slice_bounds-write_all-end g c =
+slice_bounds-write_all-end c =
     let h = (made_length (rw c.unwrap-n.ensures at c.write_job.ensures)).0 in simp length-take (omega arith)
