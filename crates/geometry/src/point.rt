@@ -21,7 +21,7 @@ pub struct NearPoint {
 }
 
 // A coordinate within ±1,000,000,000.
-fn is_near(v: i32) -> bool
+pub fn is_near(v: i32) -> bool
     ensures { result ≡ near v }
 {
     (-1_000_000_000 <= v) & (v <= 1_000_000_000)

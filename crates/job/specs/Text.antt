@@ -10,7 +10,7 @@ use Rattle.job.specs.Feed.{feed_of}
 use Rattle.job.specs.Loops.{spots}
 use Rattle.job.specs.Tallies.{tally}
 use Rattle.job.specs.declared.report.Report.{Report}
-use Rattle.job.specs.declared.report.Report.TheVariants.{Delivered, Stopped, Refused}
+use Rattle.job.specs.declared.report.Report.TheVariants.{Delivered, Stopped, Refused, Numbered}
 use Rattle.refusal.specs.Number.{number_of}
 
 -- ---- an edge
@@ -69,9 +69,11 @@ unfoldable pub report_text : Report → List ℕ
 report_text (Delivered moves cross told) = loop_lines (spots told) told.ring.now moves cross
 report_text (Stopped left told) = stopped_lines (tally told) told.ring.now left
 report_text (Refused r) = refused_line (number_of r)
+report_text (Numbered k) = refused_line k
 
 -- how many ring positions it tells
 abbrev pub positions : Report → ℕ
 positions (Delivered moves cross told) = length told.ring.now
 positions (Stopped left told) = length told.ring.now
 positions (Refused r) = 0
+positions (Numbered k) = 0

@@ -34,6 +34,8 @@ pub enum Report<'a> {
     },
     // Any other refusal.
     Refused(Refusal),
+    // One by its number alone, also by a number that no `Refusal` has.
+    Numbered(u8),
 }
 
 // The line `ok N moves M cross C feed F`.
@@ -146,6 +148,7 @@ fn put_text(w: &mut Writer, report: Report<'_>)
         }
         Report::Stopped { left, told } => put_stopped(w, left, told),
         Report::Refused(refusal) => put_line(w, b"refused ", refusal.number() as u64),
+        Report::Numbered(number) => put_line(w, b"refused ", number as u64),
     }
 }
 

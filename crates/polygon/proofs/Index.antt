@@ -99,11 +99,11 @@ module _ {n : ℕ} {r x : List ℕ} (k : Indexed n r x) where
     direct_is : direct n r (edge_of e) ≡ cond (eqb p.id.0 b.id.0) (at x e.min.0) (at x e.max.0)
     direct_is = rw (ep, ea, eb) (rw (index_place k e.min.0 lo, index_place k e.max.0 hi))
 
-    pub direct_first : eqb p.id.0 b.id.0 ≡ true → a ≡ position n (direct n r (edge_of e))
-    direct_first t = ea ∙ ap (position n) (sym (direct_is ∙ ap (λ t. cond t (at x e.min.0) (at x e.max.0)) t))
+    pub direct_first : eqb p.id.0 b.id.0 ≡ true → a.id.0 ≡ direct n r (edge_of e)
+    direct_first t = rw ea (sym (direct_is ∙ ap (λ t. cond t (at x e.min.0) (at x e.max.0)) t))
 
-    pub direct_second : eqb p.id.0 b.id.0 ≡ false → b ≡ position n (direct n r (edge_of e))
-    direct_second t = eb ∙ ap (position n) (sym (direct_is ∙ ap (λ t. cond t (at x e.min.0) (at x e.max.0)) t))
+    pub direct_second : eqb p.id.0 b.id.0 ≡ false → b.id.0 ≡ direct n r (edge_of e)
+    direct_second t = rw eb (sym (direct_is ∙ ap (λ t. cond t (at x e.min.0) (at x e.max.0)) t))
 
 -- what the check of `direct` needs
 pub ruleset directing = (direct_first, direct_second)

@@ -7,13 +7,13 @@ use Rattle.polygon.proofs.RingEdges.{moved_at, moved_length, reversed_ring}
 use Rattle.polygon.proofs.InPlace.{moved_is}
 
 module _ (n p q : ℕ) (pq : p < q) (lq : q < n) where
-  flip_within : (i : ℕ) → p ≤ i → i ≤ q → flip n p q i ≡ p + q - i
+  pub flip_within : (i : ℕ) → p ≤ i → i ≤ q → flip n p q i ≡ p + q - i
   flip_within i a b = grind arith
 
-  flip_before : (i : ℕ) → i < p → flip n p q i ≡ i
+  pub flip_before : (i : ℕ) → i < p → flip n p q i ≡ i
   flip_before i a = grind arith
 
-  flip_behind : (i : ℕ) → q < i → flip n p q i ≡ i
+  pub flip_behind : (i : ℕ) → q < i → flip n p q i ≡ i
   flip_behind i a = grind arith
 
 -- the list t in the place of as many entries, from p on

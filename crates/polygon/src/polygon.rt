@@ -129,6 +129,33 @@ pub fn identity(ring: &mut [u16], index: &mut [u16])
 
 // ---- ring and index together
 
+// The position of a point, on a ring of that size.
+fn point_id_to_position(index: &[u16], size: u16, point: PointId) -> Position
+    requires { point.0 < length index.now }
+    ensures { result ≡ position size (at index.now point.0) }
+{
+    Position {
+        id: PositionId(index[point.0 as usize]),
+        size,
+    }
+}
+
+// The position at which an edge of the ring starts, found by the index: with it the edge has a direction.
+#[tactic(auto, using(crate::proofs::Index::directing))]
+pub fn direct(ring: &[u16], index: &[u16], edge: IndexEdge) -> PositionId
+    requires { Indexed (length ring.now) ring.now index.now × (length ring.now < 65536) × (edge.min.0 < length ring.now) × (edge.max.0 < length ring.now) }
+    ensures { result.0 ≡ direct (length ring.now) ring.now (edge_of edge) }
+{
+    let size = ring.len() as u16;
+    let min = point_id_to_position(index, size, edge.min);
+    let max = point_id_to_position(index, size, edge.max);
+    if min.next().id == max.id {
+        min.id
+    } else {
+        max.id
+    }
+}
+
 // A ring with its position index, as they were lent.
 #[derive(Drop)]
 pub struct Polygon<'a> {
@@ -158,23 +185,12 @@ impl<'a> Polygon<'a> {
         }
     }
 
-    // The position of a point.
-    fn point_id_to_position(&self, point: PointId) -> Position
-        requires { point.0 < length self.now.ring.now }
-        ensures { result ≡ position (length self.now.ring.now) (at self.now.index.now point.0) }
-    {
-        self.position(PositionId(self.index[point.0 as usize]))
-    }
-
-    // The position at which an edge of the ring starts: with it the edge has a direction.
-    #[tactic(auto, using(crate::proofs::Index::directing))]
+    // The position at which an edge of the ring starts.
     pub fn direct(&self, edge: IndexEdge) -> Position
         requires { (edge.min.0 < length self.now.ring.now) × (edge.max.0 < length self.now.ring.now) }
         ensures { result ≡ position (length self.now.ring.now) (direct (length self.now.ring.now) self.now.ring.now (edge_of edge)) }
     {
-        let min = self.point_id_to_position(edge.min);
-        let max = self.point_id_to_position(edge.max);
-        if min.next().id == max.id { min } else { max }
+        self.position(direct(self.ring, self.index, edge))
     }
 
     // Two points change places, and the index with them.

@@ -52,6 +52,7 @@ pub fn go_on(
     requires { let n = set.old.vertices in
         (points.n ≡ n) × (length picks.now ≤ 1000000) × (tree.old ≡ ring_tree n (spots points) polygon.old.ring.now) × ((s : State) × Running n (spots points) s [] polygon.old.ring.now polygon.old.index.now (pool_in set.old)) }
     ensures same { SameBuffers set.old set.new }
+    ensures room { Room set.old.vertices (buffers_in set.new) }
     ensures loans { SameLoans polygon.old polygon.new }
     ensures tree { tree.new ≡ ring_tree set.old.vertices (spots points.entry) polygon.new.ring.now }
     ensures ended { let n = set.old.vertices in
@@ -77,6 +78,7 @@ pub fn resolve(
     requires { let n = set.old.vertices in
         (points.n ≡ n) × (refusal n (spots points) false (too_many picks.now) polygon.old.ring.now ≡ 0) × Room n (buffers_in set.old) × (length tree.old ≡ tree_size n) }
     ensures same { SameBuffers set.old set.new }
+    ensures room { Room set.old.vertices (buffers_in set.new) }
     ensures loans { SameLoans polygon.old polygon.new }
     ensures tree { tree.new ≡ ring_tree set.old.vertices (spots points.entry) polygon.new.ring.now }
     ensures ended { let n = set.old.vertices in

@@ -42,7 +42,7 @@ low p = omega (arith, p.up, p.top)
 pub met_is : (ps : Points) {e f : Edge} → Among ps.n (spots ps) e f → {r : Bool} → other e f ≡ true → r ≡ meet_edges (spots ps) e f → r ≡ met (spots ps) e f
 met_is ps {e} {f} a t h = h ∙ meet_comm a.distinct a.first a.second ∙ sym (ap (λ (k : Bool). k && meet_edges (spots ps) f e) t)
 
-either_in_range : (t : Bool) {p q : Point} → InRange p → InRange q → InRange (cond t p q)
+pub either_in_range : (t : Bool) {p q : Point} → InRange p → InRange q → InRange (cond t p q)
 either_in_range true h k = h
 either_in_range false h k = k
 

@@ -80,7 +80,7 @@ pub part_length : {A : Type 0} {n : ℕ} (m : ℕ) (l : List A) → m ≡ n → 
 part_length {n = n} m l e h = ap (λ k. length (take k l)) e ∙ length-take-le n l h
 
 -- what is past it is as it was
-past_part : {A : Type 0} {n : ℕ} (m : ℕ) (part l : List A) → m ≡ n → length part ≡ n → drop n (part ++ drop m l) ≡ drop n l
+pub past_part : {A : Type 0} {n : ℕ} (m : ℕ) (part l : List A) → m ≡ n → length part ≡ n → drop n (part ++ drop m l) ≡ drop n l
 past_part {n = n} m part l e h = drop_at part (drop m l) n h ∙ ap (λ k. drop k l) e
 
 -- ---- the parts that check 2 asks for, lent to a run

@@ -1,8 +1,9 @@
 // What a move does to the ring (two_opt.rs, in `untangle`): the edges that it removes, those that it inserts, the new order, its tree.
-ghost use Rattle.std.specs.Prelude.{◌≡◌, List, ℕ, length, map};
+ghost use Rattle.std.specs.Prelude.{◌≡◌, List, ℕ, ◌<◌, length, map};
 ghost use Rattle.geometry.specs.Spots.{spots};
 ghost use Rattle.index_edge.specs.Number.{edge_of};
 ghost use Rattle.polygon.specs.Ring.{IsRing};
+ghost use Rattle.polygon.specs.Place.{position};
 ghost use Rattle.polygon.specs.Lent.{SameLoans};
 ghost use Rattle.polygon.specs.Change.{cut, lay, turned, Fits};
 ghost use Rattle.moves.specs.Plan.{plan_of};
@@ -14,6 +15,7 @@ use geometry::lent::Points;
 use index_edge::IndexEdge;
 use moves::plan::Move;
 use polygon::polygon::Polygon;
+use polygon::position::{Position, PositionId};
 use sweeps::edges::{edge_at, edge_between};
 
 // The edges that a move removes, or inserts: two for an uncrossing, three for a hoist.
@@ -34,46 +36,54 @@ impl Few {
     }
 }
 
-// The edges that a move removes, in order.
-pub fn removed_edges(polygon: &Polygon<'_>, plan: Move) -> Few
-    requires { Fits (length polygon.now.ring.now) (plan_of plan) }
-    ensures { few_of result ≡ cut (length polygon.now.ring.now) (plan_of plan) polygon.now.ring.now }
+fn position_of(ring: &[u16], id: PositionId) -> Position
+    requires { length ring.now < 65536 }
+    ensures { result ≡ position (length ring.now) id.0 }
 {
-    let ring = polygon.as_slice();
+    Position {
+        id,
+        size: ring.len() as u16,
+    }
+}
+
+// The edges that a move removes, in order. These and those that it inserts are read off the ring alone: no index is needed.
+pub fn removed_edges(ring: &[u16], plan: Move) -> Few
+    requires { IsRing (length ring.now) ring.now × (length ring.now < 65536) × Fits (length ring.now) (plan_of plan) }
+    ensures { few_of result ≡ cut (length ring.now) (plan_of plan) ring.now }
+{
     match plan {
         Move::Uncross { from, to } => Few::Two([
-            edge_at(ring, polygon.position(from)),
-            edge_at(ring, polygon.position(to)),
+            edge_at(ring, position_of(ring, from)),
+            edge_at(ring, position_of(ring, to)),
         ]),
         Move::Hoist { kink, edge } => {
-            let kink = polygon.position(kink);
+            let kink = position_of(ring, kink);
             Few::Three([
                 edge_at(ring, kink.prev()),
                 edge_at(ring, kink),
-                edge_at(ring, polygon.position(edge)),
+                edge_at(ring, position_of(ring, edge)),
             ])
         }
     }
 }
 
 // The edges that it inserts, in order.
-pub fn inserted_edges(polygon: &Polygon<'_>, plan: Move) -> Few
-    requires { Fits (length polygon.now.ring.now) (plan_of plan) }
-    ensures { few_of result ≡ lay (length polygon.now.ring.now) (plan_of plan) polygon.now.ring.now }
+pub fn inserted_edges(ring: &[u16], plan: Move) -> Few
+    requires { IsRing (length ring.now) ring.now × (length ring.now < 65536) × Fits (length ring.now) (plan_of plan) }
+    ensures { few_of result ≡ lay (length ring.now) (plan_of plan) ring.now }
 {
-    let ring = polygon.as_slice();
     match plan {
         Move::Uncross { from, to } => {
-            let a = polygon.position(from);
-            let b = polygon.position(to);
+            let a = position_of(ring, from);
+            let b = position_of(ring, to);
             Few::Two([
                 edge_between(ring, a, b),
                 edge_between(ring, a.next(), b.next()),
             ])
         }
         Move::Hoist { kink, edge } => {
-            let kink = polygon.position(kink);
-            let edge = polygon.position(edge);
+            let kink = position_of(ring, kink);
+            let edge = position_of(ring, edge);
             Few::Three([
                 edge_between(ring, kink.prev(), kink.next()),
                 edge_between(ring, edge, kink),

@@ -37,8 +37,9 @@ pub fn untangle(
         → Running n pt s (cs ++ pick ∷ []) polygon.new.ring.now polygon.new.index.now (pool_in set.new) }
 {
     let plan = plan(points, polygon, isect.min, isect.max);
-    let removed = removed_edges(polygon, plan);
-    let inserted = inserted_edges(polygon, plan);
+    let before = polygon.as_slice();
+    let removed = removed_edges(before, plan);
+    let inserted = inserted_edges(before, plan);
     remove_edges(set, removed.as_slice());
     turn_ring(polygon, plan);
     let ring = polygon.as_slice();

@@ -35,3 +35,11 @@ returns-in-Refused-clause-text c = rw (c.in-Refused.is, ← c.number.ensures) c.
 pub returns-in-Refused-clause-short : goal.returns-in-Refused-clause-short
 unfolding report_text
 returns-in-Refused-clause-short c = rw c.in-Refused.is (omega (arith, length_refused (number_of c.in-Refused.refusal)))
+
+pub returns-in-Numbered-clause-text : goal.returns-in-Numbered-clause-text
+unfolding report_text refused_line
+returns-in-Numbered-clause-text c = rw c.in-Numbered.is c.put_line-in-Numbered.ensures
+
+pub returns-in-Numbered-clause-short : goal.returns-in-Numbered-clause-short
+unfolding report_text
+returns-in-Numbered-clause-short c = rw c.in-Numbered.is (omega (arith, length_refused c.in-Numbered.number))

@@ -27,10 +27,16 @@ plan-plan-requires c =
     (p.0 ∙ sym (the_ring run pick).len, rw p.0 (the_board run pick), rw p.0 (crosses run pick))
 
 pub removed_edges-removed-requires : goal.removed_edges-removed-requires
-removed_edges-removed-requires c = let p = c.requires.2 in plan_asks p.3 p.4 (by_length p.3 p.4 c.requires.0 c.plan-plan.ensures)
+removed_edges-removed-requires c =
+    let p = c.requires.2 in
+    let was = c.args.polygon.now in
+    rw c.as_slice-before.ensures (was.indexed.ring, was.short, plan_asks p.3 p.4 (by_length p.3 p.4 c.requires.0 c.plan-plan.ensures))
 
 pub inserted_edges-inserted-requires : goal.inserted_edges-inserted-requires
-inserted_edges-inserted-requires c = let p = c.requires.2 in plan_asks p.3 p.4 (by_length p.3 p.4 c.requires.0 c.plan-plan.ensures)
+inserted_edges-inserted-requires c =
+    let p = c.requires.2 in
+    let was = c.args.polygon.now in
+    rw c.as_slice-before.ensures (was.indexed.ring, was.short, plan_asks p.3 p.4 (by_length p.3 p.4 c.requires.0 c.plan-plan.ensures))
 
 pub turn_ring-requires : goal.turn_ring-requires
 turn_ring-requires c = let p = c.requires.2 in plan_asks p.3 p.4 (by_length p.3 p.4 c.requires.0 c.plan-plan.ensures)
@@ -38,7 +44,7 @@ turn_ring-requires c = let p = c.requires.2 in plan_asks p.3 p.4 (by_length p.3 
 pub remove_edges-requires : goal.remove_edges-requires
 remove_edges-requires c =
     let p = c.requires.2 in
-    let is_cut = at_found p.3 p.4 (by_length p.3 p.4 c.requires.0 c.plan-plan.ensures) cut (c.as_slice.ensures ∙ c.removed_edges-removed.ensures) in
+    let is_cut = at_found p.3 p.4 (by_length p.3 p.4 c.requires.0 c.plan-plan.ensures) cut (c.as_slice.ensures ∙ (rw c.as_slice-before.ensures at c.removed_edges-removed.ensures)) in
     (subst⁻¹ (AllProper c.args.set.now.vertices) is_cut (cuts_proper p.3 p.4), (_, p.3.holds))
 
 pub turn_tree-requires : goal.turn_tree-requires
@@ -59,8 +65,8 @@ pub scans-requires : goal.scans-requires
 scans-requires c =
     let p = c.requires.2 in
     let e = by_length p.3 p.4 c.requires.0 c.plan-plan.ensures in
-    let is_cut = at_found p.3 p.4 e cut (c.as_slice.ensures ∙ c.removed_edges-removed.ensures) in
-    let is_lay = at_found p.3 p.4 e lay (c.as_slice-2.ensures ∙ c.inserted_edges-inserted.ensures) in
+    let is_cut = at_found p.3 p.4 e cut (c.as_slice.ensures ∙ (rw c.as_slice-before.ensures at c.removed_edges-removed.ensures)) in
+    let is_lay = at_found p.3 p.4 e lay (c.as_slice-2.ensures ∙ (rw c.as_slice-before.ensures at c.inserted_edges-inserted.ensures)) in
     let is_turned = c.as_slice-ring.ensures ∙ at_found p.3 p.4 e turned c.turn_ring.ensures.ring in
     let n = c.args.set.now.vertices in
     let r = c.remove_edges.ensures in
@@ -79,8 +85,8 @@ returns-clause-running c =
     let ring = c.turn_ring.new.polygon in
     λ t cs pick run pk.
     let e = by_length run pk c.requires.0 c.plan-plan.ensures in
-    let is_cut = at_found run pk e cut (c.as_slice.ensures ∙ c.removed_edges-removed.ensures) in
-    let is_lay = at_found run pk e lay (c.as_slice-2.ensures ∙ c.inserted_edges-inserted.ensures) in
+    let is_cut = at_found run pk e cut (c.as_slice.ensures ∙ (rw c.as_slice-before.ensures at c.removed_edges-removed.ensures)) in
+    let is_lay = at_found run pk e lay (c.as_slice-2.ensures ∙ (rw c.as_slice-before.ensures at c.inserted_edges-inserted.ensures)) in
     let is_turned = at_found run pk e turned c.turn_ring.ensures.ring in
     let holds = (rw r.same.vertices at c.scans.ensures.holds) _ (r.removed _ run.holds) (room_as run pk (c.as_slice-ring.ensures ∙ is_turned) is_lay is_cut) in
     next_running run pk is_turned is_lay is_cut (index_is ring.indexed (sym (turned_long run pk is_turned))) (subst (λ l. Holds c.args.set.now.vertices (pool_in c.scans.new.set) (scans (spots c.args.points) (edges c.args.set.now.vertices l) (map edge_of c.as_slice-2.result.now) (removes (map edge_of c.as_slice.result.now) (state_after c.args.set.now.vertices (spots c.args.points) t cs).store))) c.as_slice-ring.ensures holds)
