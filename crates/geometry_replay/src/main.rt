@@ -37,7 +37,7 @@ impl From<u32> for Kind {
     }
 }
 
-// What is written of a case: a letter, or the ends of an overlap. They are bytes, which are copied: formatted one by one they took half the time of a run.
+// What is written of a case: a letter, or the ends of an overlap. They are bytes, which are copied: to format each by itself took a third of a run's instructions.
 #[derive(Clone, Copy)]
 enum Letters {
     One([u8; 1]),
